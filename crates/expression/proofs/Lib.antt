@@ -1,0 +1,3 @@
+pub mod Machines
+pub mod Scans
+pub mod Progress

@@ -1,0 +1,12 @@
+-- What the numbers of the refusals are.
+use Prim.Native.Nat.{ℕ}
+use Rattle.expression.specs.declared.fault.Cause.{Cause}
+use Rattle.expression.specs.declared.fault.Cause.the-variants.{WordCount, NotAWord, NoPiece, TooManyLetters, TooDeep, Unfinished}
+
+abbrev pub causeNumber : Cause → ℕ
+causeNumber WordCount = 20
+causeNumber NotAWord = 21
+causeNumber NoPiece = 22
+causeNumber TooManyLetters = 23
+causeNumber TooDeep = 24
+causeNumber Unfinished = 25

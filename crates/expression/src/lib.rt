@@ -1,0 +1,7 @@
+// Expressions: regular expressions over labels, as 32-bit words, and the machine that an expression is read into.
+pub mod fault;
+pub mod machine;
+pub mod symbol;
+
+mod part;
+mod reader;
