@@ -1,3 +1,4 @@
 pub mod Machines
 pub mod Scans
 pub mod Progress
+pub mod Whole

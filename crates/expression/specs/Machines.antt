@@ -33,12 +33,13 @@ machineLawful m = record {
   most = omega (arith, m .few);
   ends = λ s e. (omega (arith, m .ends s e), omega (arith, m .few));
   steps = λ s l t e.
-      let p = and-parts _ _ e in
+      let p = and-parts (linked m s t) (eqb (labelOf m t) l) e in
       (omega (arith, m .from s t (p .0)), omega (arith, m .labelled t, eqb-true _ _ (p .1)), omega (arith, m .within s t (p .0)), omega (arith, m .few));
 }
 
--- The machine of one state that accepts nothing and has no moves.
+-- The machine of one state that accepts nothing and has no moves or labels.
 pub record Empty (m : Machine) : Type 0 where
   pub size : machineMeaning m .size ≡ 1
   pub ends : (s : ℕ) → machineMeaning m .accepting s ≡ false
   pub steps : (s l t : ℕ) → machineMeaning m .moves s l t ≡ false
+  pub labels : (t : ℕ) → labelOf m t ≡ 0

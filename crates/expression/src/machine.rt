@@ -2,6 +2,8 @@
 // so every move into a state bears the label of that state's letter.
 pub mod ask;
 
+pub mod read;
+
 mod build;
 
 ghost use mathlib.Core.Bool.{true};

@@ -4,6 +4,7 @@ ghost use Rattle.std.specs.declared.option.Option.the-variants.{Some};
 ghost use Rattle.std.specs.declared.result.Result.the-variants.{Ok};
 ghost use Rattle.expression.specs.declared.symbol.Symbol.the-variants.{Letter, Open};
 ghost use Rattle.expression.specs.Parts.{Within};
+ghost use Rattle.expression.specs.Reading.{MachineOf};
 ghost use Rattle.expression.specs.Readers.{Ready, Peeked, Read, Repeated, Stopped, afterPiece, afterSequence, afterExpression};
 use crate::fault::Cause;
 use crate::fault::Fault;
@@ -22,6 +23,26 @@ pub struct Reader<'a> {
     place: usize,
     depth: u32,
     machine: Machine,
+}
+
+// The machine of an expression that is read whole.
+pub(crate) fn machine_of(words: &[u32]) -> Result<Machine, Fault>
+    ensures { λ r. ⌜ MachineOf (now (words .entry)) r ⌝ }
+{
+    let mut reader = Reader {
+        words,
+        place: 0,
+        depth: 0,
+        machine: Machine::empty(),
+    };
+    let whole = reader.expression()?;
+    if reader.place < words.len() {
+        // Only a close can come after an expression, and here nothing is open.
+        return Err(reader.fault(Cause::NoPiece));
+    }
+    let Reader { words: _, place: _, depth: _, mut machine } = reader;
+    machine.finish(whole);
+    Ok(machine)
 }
 
 impl<'a> Reader<'a> {

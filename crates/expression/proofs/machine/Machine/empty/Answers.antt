@@ -30,4 +30,4 @@ ghost-result c = (
 )
 
 pub returns : need.returns
-returns c = record { size = refl; ends = member-none; steps = λ s l t. ap (λ (b : Bool). b && eqb (getD (replicate 32 0) t 0) l) (zeros-link 32 s t) }
+returns c = record { size = refl; ends = member-none; steps = λ s l t. ap (λ (b : Bool). b && eqb (getD (replicate 32 0) t 0) l) (zeros-link 32 s t); labels = zeros-at 32 }
