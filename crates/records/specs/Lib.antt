@@ -1,0 +1,5 @@
+pub mod Faults
+pub mod Loading
+pub mod Records
+pub mod Lines
+pub mod Starts
