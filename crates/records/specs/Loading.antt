@@ -1,7 +1,7 @@
 -- The words of a tape's bytes: four bytes make a word, low byte first. Fewer than four at the end make none.
 use mathlib.Core.List.{List, [], _∷_, _++_}
 use mathlib.Core.Path.{_≡_}
-use Prim.Native.Nat.{ℕ, _+_, _*_, _≤_, _<_}
+use Prim.Native.Nat.{ℕ, _+_, _*_, _/_, _≤_, _<_}
 use lib.ListN.{length, drop}
 use Rattle.std.specs.declared.result.Result.{Result}
 use Rattle.std.specs.declared.result.Result.the-variants.{Ok, Err}
@@ -24,5 +24,5 @@ mostBytes = 8192
 -- The words stand at the front of the memory, and the rest of it is as it was. A tape that is too long changes nothing.
 abbrev pub Loads : List ℕ → List ℕ → List ℕ → Result ℕ TapeFault → Type 0
 Loads bytes memory memory′ (Ok count) =
-    (length bytes ≤ mostBytes) × (count ≡ length (wordsOf bytes)) × (memory′ ≡ wordsOf bytes ++ drop count memory)
+    (length bytes ≤ mostBytes) × (count ≡ length bytes / 4) × (memory′ ≡ wordsOf bytes ++ drop count memory)
 Loads bytes memory memory′ (Err f) = (mostBytes < length bytes) × (f ≡ TooLong) × (memory′ ≡ memory)

@@ -1,4 +1,4 @@
-use mathlib.Core.Path.{sym, ap, _∙_}
+use mathlib.Core.Path.{refl, sym, _∙_}
 use native.Mathlib.Omega.{arith}
 use lib.ListN.{length-set}
 use Rattle.records.proofs.Fronts.{over-none, over-more, over-all}
@@ -19,4 +19,4 @@ loop-i-again c =
 pub returns : need.returns
 returns c =
     let count = words-length (c .args .bytes .now) in
-    (c .if-bytes-gt-MOST-BYTES .left, sym count, over-all _ _ _ _ _ (omega arith) (omega arith) (c .loop-i .inv .1))
+    (c .if-bytes-gt-MOST-BYTES .left, refl, over-all _ _ _ _ _ (omega arith) (omega arith) (c .loop-i .inv .1))
