@@ -1,4 +1,6 @@
 pub mod Machines
 pub mod Scans
 pub mod Progress
+pub mod Fragments
+pub mod Readings
 pub mod Whole

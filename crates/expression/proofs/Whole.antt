@@ -20,6 +20,7 @@ use Rattle.expression.specs.declared.part.Part.{Part}
 use Rattle.expression.specs.declared.reader.Reader.{Reader}
 use Rattle.expression.specs.declared.symbol.Symbol.{Symbol}
 use Rattle.expression.specs.declared.symbol.Symbol.the-variants.{Letter, Open, Close, Bar, Star, Plus, Maybe}
+use Rattle.expression.specs.Grammar.{Expression}
 use Rattle.expression.specs.Machines.{Empty}
 use Rattle.expression.specs.Readers.{left, scanAt, ahead, labelsAt, ReadPart, Stops, afterExpression}
 use Rattle.expression.specs.Reading.{Fills}
@@ -41,7 +42,7 @@ module _ (ws : List ℕ) (r : Reader) (fresh : Fresh ws r) where
   from-start : verdict 0 start ws ≡ ahead r true
   from-start = λ i. verdict (sym (fresh .place) i) (record { depth = sym (fresh .depth) i; letters = sym no-letters i; begins = true }) (drop (sym (fresh .place) i) (sym (fresh .words) i))
 
-  module _ (r′ : Reader) (p : Part) (read : ReadPart r r′ p) where
+  module _ (r′ : Reader) (p : Part) (read : ReadPart Expression r r′ p) where
     closed : r′ .depth ≡ 0
     closed = read .depth ∙ fresh .depth
 

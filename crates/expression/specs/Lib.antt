@@ -1,7 +1,10 @@
 pub mod Symbols
+pub mod Language
+pub mod Grammar
 pub mod Faults
 pub mod Scan
 pub mod Machines
 pub mod Reading
 pub mod Parts
+pub mod Fragments
 pub mod Readers

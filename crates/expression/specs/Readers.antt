@@ -14,6 +14,11 @@ use Rattle.expression.specs.declared.part.Part.{Part}
 use Rattle.expression.specs.declared.reader.Reader.{Reader}
 use Rattle.expression.specs.declared.symbol.Symbol.{Symbol}
 use Rattle.expression.specs.declared.symbol.Symbol.the-variants.{Letter, Open, Close, Bar, Star, Plus, Maybe}
+use Rattle.expression.specs.declared.machine.Machine.{Machine}
+use Rattle.expression.specs.Fragments.{Fragment}
+use Rattle.expression.specs.Grammar.{Repeats}
+use Rattle.expression.specs.Language.{Tree, Language}
+use Rattle.expression.specs.Machines.{linked, labelOf}
 use Rattle.expression.specs.Scan.{Scan, verdict, lettersOf}
 use Rattle.expression.specs.Symbols.{symbolOf}
 use Rattle.expression.specs.Parts.{Within}
@@ -44,24 +49,42 @@ pub record Went (b : Bool) (r : Reader) (b′ : Bool) (r′ : Reader) : Type 0 w
   pub labels : labelsAt r′ ≡ labelsAt r
   pub faults : ahead r b ≡ ahead r′ b′
 
--- A reader has read a part that begins at r and ends at r′, with letters of its own.
-pub record ReadPart (r r′ : Reader) (p : Part) : Type 0 where
+-- Up to letter k, the moves and the labels are as they were.
+pub record Kept (k : ℕ) (m m′ : Machine) : Type 0 where
+  pub moves : (s t : ℕ) → s ≤ k → linked m′ s t ≡ linked m s t
+  pub labels : (t : ℕ) → t ≤ k → labelOf m′ t ≡ labelOf m t
+
+-- In the machine, the letters after lo are a fragment for the tree's language.
+abbrev pub Spells : Machine → ℕ → Part → Tree → Type 0
+Spells m lo p t = Fragment (linked m) (labelOf m) lo (m .letters) p (Language t)
+
+-- A reader has read a part that begins at r and ends at r′, of this level of the grammar.
+pub record ReadPart (Level : List ℕ → List ℕ → Tree → Type 0) (r r′ : Reader) (p : Part) : Type 0 where
   pub went : Went true r false r′
   pub depth : r′ .depth ≡ r .depth
   pub further : r .place < r′ .place
-  pub own : Within (r .machine .letters) (r′ .machine .letters) p
+  pub kept : Kept (r .machine .letters) (r .machine) (r′ .machine)
+  pub tree : Tree
+  pub derived : Level (left r) (left r′) tree
+  pub fragment : Spells (r′ .machine) (r .machine .letters) p tree
 
 -- What a reader answers: a part, or the fault that was to come.
-abbrev pub Read : Reader → Reader → Result Part Fault → Type 0
-Read r r′ (Ok p) = ReadPart r r′ p
-Read r r′ (Err f) = ahead r true ≡ Some f
+abbrev pub Read : (List ℕ → List ℕ → Tree → Type 0) → Reader → Reader → Result Part Fault → Type 0
+Read Level r r′ (Ok p) = ReadPart Level r r′ p
+Read Level r r′ (Err f) = ahead r true ≡ Some f
+
+-- The repeats read have made a part of a larger tree from one of tree s.
+pub record Grown (p : Part) (r r′ : Reader) (q : Part) (s : Tree) : Type 0 where
+  pub tree : Tree
+  pub derived : Repeats (left r) (left r′) s tree
+  pub fragment : (lo : ℕ) → Spells (r .machine) lo p s → Spells (r′ .machine) lo q tree
 
 -- The reader of repeats has made q of the part p, with no letter more.
 pub record RepeatedPart (p : Part) (r r′ : Reader) (q : Part) : Type 0 where
   pub went : Went false r false r′
   pub depth : r′ .depth ≡ r .depth
-  pub letters : r′ .machine .letters ≡ r .machine .letters
-  pub own : (lo hi : ℕ) → Within lo hi p → Within lo hi q
+  pub kept : (lo : ℕ) → Within lo (r .machine .letters) p → Kept lo (r .machine) (r′ .machine)
+  pub grown : (s : Tree) → Grown p r r′ q s
 
 abbrev pub Repeated : Part → Reader → Reader → Result Part Fault → Type 0
 Repeated p r r′ (Ok q) = RepeatedPart p r r′ q
@@ -75,6 +98,17 @@ Stops test ws = (ws ≡ []) ⊎ ((w : ℕ) × (us : List ℕ) × (y : Symbol) ×
 abbrev pub Stopped : (Symbol → Bool) → Reader → Result Part Fault → Type 0
 Stopped test r (Ok p) = Stops test (left r)
 Stopped test r (Err f) = Unit {0}
+
+-- A piece begins with a letter or an open.
+abbrev pub beginsPiece : Option Symbol → Bool
+beginsPiece None = false
+beginsPiece (Some (Letter l)) = true
+beginsPiece (Some Open) = true
+beginsPiece (Some Close) = false
+beginsPiece (Some Bar) = false
+beginsPiece (Some Star) = false
+beginsPiece (Some Plus) = false
+beginsPiece (Some Maybe) = false
 
 -- What may come after a piece, a sequence and an expression.
 abbrev pub afterPiece : Symbol → Bool

@@ -3,9 +3,10 @@ ghost use mathlib.Core.Path.{_≡_};
 ghost use Rattle.std.specs.declared.option.Option.the-variants.{Some};
 ghost use Rattle.std.specs.declared.result.Result.the-variants.{Ok};
 ghost use Rattle.expression.specs.declared.symbol.Symbol.the-variants.{Letter, Open};
+ghost use Rattle.expression.specs.Grammar.{Expression, Sequence, Piece, Atom};
 ghost use Rattle.expression.specs.Parts.{Within};
 ghost use Rattle.expression.specs.Reading.{MachineOf};
-ghost use Rattle.expression.specs.Readers.{Ready, Peeked, Read, Repeated, Stopped, afterPiece, afterSequence, afterExpression};
+ghost use Rattle.expression.specs.Readers.{Ready, Peeked, Read, Repeated, Stopped, afterPiece, afterSequence, afterExpression, beginsPiece};
 use crate::fault::Cause;
 use crate::fault::Fault;
 use crate::machine::Machine;
@@ -49,7 +50,7 @@ impl<'a> Reader<'a> {
     // An expression: sequences parted by bars.
     fn expression(&mut self) -> Result<Part, Fault>
         requires { ⌜ Ready (now self) ⌝ }
-        ensures read { λ r. ⌜ Read (now (self .entry)) (now (self .exit)) r ⌝ }
+        ensures read { λ r. ⌜ Read Expression (now (self .entry)) (now (self .exit)) r ⌝ }
         ensures next { λ r. ⌜ Stopped afterExpression (now (self .exit)) r ⌝ }
     {
         let left = self.sequence()?;
@@ -64,13 +65,14 @@ impl<'a> Reader<'a> {
     // A sequence: one or more pieces.
     fn sequence(&mut self) -> Result<Part, Fault>
         requires { ⌜ Ready (now self) ⌝ }
-        ensures read { λ r. ⌜ Read (now (self .entry)) (now (self .exit)) r ⌝ }
+        ensures read { λ r. ⌜ Read Sequence (now (self .entry)) (now (self .exit)) r ⌝ }
         ensures next { λ r. ⌜ Stopped afterSequence (now (self .exit)) r ⌝ }
     {
         let front = self.piece()?;
-        let Some(Symbol::Letter(_) | Symbol::Open) = self.peek()? else {
+        let next = self.peek()?;
+        if !begins_piece(next) {
             return Ok(front);
-        };
+        }
         let back = self.sequence()?;
         self.machine.link(front.last, back.first);
         Ok(front.then(back))
@@ -79,7 +81,7 @@ impl<'a> Reader<'a> {
     // A piece: a letter or a group, with its repeats.
     fn piece(&mut self) -> Result<Part, Fault>
         requires { ⌜ Ready (now self) ⌝ }
-        ensures read { λ r. ⌜ Read (now (self .entry)) (now (self .exit)) r ⌝ }
+        ensures read { λ r. ⌜ Read Piece (now (self .entry)) (now (self .exit)) r ⌝ }
         ensures next { λ r. ⌜ Stopped afterPiece (now (self .exit)) r ⌝ }
     {
         let part = match self.peek()? {
@@ -95,7 +97,7 @@ impl<'a> Reader<'a> {
     fn group(&mut self) -> Result<Part, Fault>
         requires ready { ⌜ Ready (now self) ⌝ }
         requires next { ⌜ Peeked (now self) (Ok (Some Open)) ⌝ }
-        ensures { λ r. ⌜ Read (now (self .entry)) (now (self .exit)) r ⌝ }
+        ensures { λ r. ⌜ Read Atom (now (self .entry)) (now (self .exit)) r ⌝ }
     {
         if self.depth >= MOST_OPEN {
             return Err(self.fault(Cause::TooDeep));
@@ -115,7 +117,7 @@ impl<'a> Reader<'a> {
     fn letter(&mut self, label: u32) -> Result<Part, Fault>
         requires ready { ⌜ Ready (now self) ⌝ }
         requires next { ⌜ Peeked (now self) (Ok (Some (Letter label))) ⌝ }
-        ensures { λ r. ⌜ Read (now (self .entry)) (now (self .exit)) r ⌝ }
+        ensures { λ r. ⌜ Read Atom (now (self .entry)) (now (self .exit)) r ⌝ }
     {
         if self.machine.letters() >= MOST_LETTERS {
             return Err(self.fault(Cause::TooManyLetters));
@@ -167,5 +169,16 @@ impl<'a> Reader<'a> {
         ensures { λ r. ⌜ (r .cause ≡ cause) × (r .place ≡ now (self .entry) .place) ⌝ }
     {
         Fault { cause, place: self.place }
+    }
+}
+
+// Whether a piece can begin with this symbol.
+fn begins_piece(next: Option<Symbol>) -> bool
+    ensures { λ r. ⌜ r ≡ beginsPiece next ⌝ }
+{
+    match next {
+        Some(Symbol::Letter(_)) => true,
+        Some(Symbol::Open) => true,
+        _ => false,
     }
 }
