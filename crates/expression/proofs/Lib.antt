@@ -5,4 +5,6 @@ pub mod Fragments
 pub mod Readings
 pub mod Accepting
 pub mod Unique
+pub mod Refusals
+pub mod Trees
 pub mod Whole

@@ -16,7 +16,7 @@ use Rattle.expression.specs.Readers.{Stops, afterPiece, afterSequence, afterEx
 use Rattle.expression.specs.Symbols.{symbolOf}
 
 -- The symbol that comes next, if the words go on with one.
-abbrev ahead : List ℕ → Option Symbol
+abbrev pub ahead : List ℕ → Option Symbol
 ahead [] = None
 ahead (w ∷ ws) = symbolOf w
 
@@ -65,7 +65,7 @@ atom-begins (group-atom e x c) = ap beginsPiece e
 piece-begins : {ws rest : List ℕ} {t : Tree} → Piece ws rest t → beginsPiece (ahead ws) ≡ true
 piece-begins (piece a r) = atom-begins a
 
-sequence-begins : {ws rest : List ℕ} {t : Tree} → Sequence ws rest t → beginsPiece (ahead ws) ≡ true
+pub sequence-begins : {ws rest : List ℕ} {t : Tree} → Sequence ws rest t → beginsPiece (ahead ws) ≡ true
 sequence-begins (last-piece p) = piece-begins p
 sequence-begins (piece-next p s) = piece-begins p
 

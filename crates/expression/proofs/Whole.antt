@@ -10,23 +10,30 @@ use lib.Dec.{eqb, ltb}
 use lib.ListN.{length, take, drop, getD, length-drop}
 use lib.Seq.{getD-take, length-take-le}
 use Rattle.std.proofs.shelf.Lists.{drop-all, take-more}
-use Rattle.std.proofs.shelf.Tests.{eq-eqb, le-ltb, false≢true}
+use Rattle.std.proofs.shelf.Tests.{eq-eqb, ne-eqb, lt-ltb, le-ltb, false≢true, or-from, or-left, or-right}
 use Rattle.std.specs.declared.option.Option.the-variants.{Some, None}
 use Rattle.std.specs.declared.result.Result.the-variants.{Ok, Err}
-use Rattle.expression.specs.declared.fault.Cause.the-variants.{NoPiece, Unfinished}
+use Rattle.expression.specs.declared.fault.Cause.{Cause}
+use Rattle.expression.specs.declared.fault.Cause.the-variants.{WordCount, NotAWord, NoPiece, TooManyLetters, TooDeep, Unfinished}
 use Rattle.expression.specs.declared.fault.Fault.{Fault}
 use Rattle.expression.specs.declared.machine.Machine.{Machine}
 use Rattle.expression.specs.declared.part.Part.{Part}
 use Rattle.expression.specs.declared.reader.Reader.{Reader}
 use Rattle.expression.specs.declared.symbol.Symbol.{Symbol}
 use Rattle.expression.specs.declared.symbol.Symbol.the-variants.{Letter, Open, Close, Bar, Star, Plus, Maybe}
-use Rattle.expression.specs.Grammar.{Expression}
-use Rattle.expression.specs.Machines.{Empty}
+use Rattle.expression.specs.Grammar.{Expression, HasTree}
+use Rattle.expression.specs.Machines.{Empty, linked, labelOf}
 use Rattle.expression.specs.Readers.{left, scanAt, ahead, labelsAt, ReadPart, Stops, afterExpression}
-use Rattle.expression.specs.Reading.{Fills}
-use Rattle.expression.specs.Scan.{verdict, start, lettersOf, unless, judged, onward}
+use Rattle.expression.specs.Fragments.{Fragment}
+use Rattle.expression.specs.Language.{Tree, Language}
+use Rattle.expression.specs.Reading.{Fills, Why, Limited, Refused}
+use Rattle.expression.specs.Scan.{Scan, verdict, start, lettersOf, unless, judged, onward, objection}
 use Rattle.expression.specs.Symbols.{symbolOf}
-use Rattle.expression.proofs.Scans.{verdict-stop, fault-is}
+use Rattle.expression.proofs.Accepting.{Finished, accepts-says, accepts-takes}
+use Rattle.expression.proofs.Refusals.{isLimit, no-tree, too-many, too-deep, not-count}
+use Rattle.expression.proofs.Scans.{verdict-stop, verdict-on, verdict-none, fault-is}
+use Rattle.expression.proofs.Trees.{some-word, no-words}
+use Rattle.expression.proofs.Unique.{one-tree}
 
 -- A reader at the beginning of the words.
 pub record Fresh (ws : List ℕ) (r : Reader) : Type 0 where
@@ -83,13 +90,62 @@ module _ (ws : List ℕ) (r : Reader) (fresh : Fresh ws r) where
           ∙ (λ i. take (no-letters i + 1) (r .machine .labels) ++ lettersOf (drop (fresh .place i) (fresh .words i)))
           ∙ ap (λ us. us ++ lettersOf ws) (take-more (r .machine .labels) 0 0 (omega (arith, r .machine .names)) ∙ ap (λ x. x ∷ []) (fresh .empty .labels 0))
 
-      pub fills : (m : Machine) → m .letters ≡ r′ .machine .letters → m .labels ≡ r′ .machine .labels → Fills ws m
-      fills m letters labels = record {
+      -- The words have the tree that was read, and no other.
+      whole-tree : HasTree ws (read .tree)
+      whole-tree =
+          subst (λ us. Expression us [] (read .tree)) ((λ i. drop (fresh .place i) (fresh .words i)))
+          (subst (λ us. Expression (left r) us (read .tree)) nothing-left (read .derived))
+
+      whole-fragment : Fragment (linked (r′ .machine)) (labelOf (r′ .machine)) 0 (r′ .machine .letters) p (Language (read .tree))
+      whole-fragment = subst (λ n. Fragment (linked (r′ .machine)) (labelOf (r′ .machine)) n (r′ .machine .letters) p (Language (read .tree))) no-letters (read .fragment)
+
+      pub fills : (m : Machine) → m .letters ≡ r′ .machine .letters → Finished (r′ .machine) m p → Fills ws m
+      fills m letters finished = record {
+        tree = (read .tree, whole-tree);
+        says = λ t has w a. subst (λ x. Language x w) (one-tree ws (read .tree) t whole-tree has) (accepts-says whole-fragment finished w a);
+        takes = λ t has w l. accepts-takes whole-fragment finished w (subst (λ x. Language x w) (one-tree ws t (read .tree) has whole-tree) l);
+        some = let word = some-word (read .tree) in (word .0, accepts-takes whole-fragment finished (word .0) (word .1));
         size = omega (arith, letters, long);
         labels = λ t h.
-            ap (λ us. getD us (t + 1) 0) labels ∙ sym (getD-take (r′ .machine .letters + 1) (r′ .machine .labels) (t + 1) 0 (omega (arith, long)))
+            ap (λ us. getD us (t + 1) 0) (finished .labels) ∙ sym (getD-take (r′ .machine .letters + 1) (r′ .machine .labels) (t + 1) 0 (omega (arith, long)))
             ∙ ap (λ us. getD us (t + 1) 0) named ∙ ap (λ n. getD (0 ∷ lettersOf ws) n 0) (add-one t);
       }
         where
           long : r′ .machine .letters ≡ length (lettersOf ws)
           long = omega (arith, ap length named, length-take-le (r′ .machine .letters + 1) (r′ .machine .labels) (omega (arith, r′ .machine .names, r′ .machine .few)))
+
+-- Every cause but a limit's says that there is no tree.
+why : (c : Cause) (ws : List ℕ) (f : Fault) → f .cause ≡ c → (c ≡ WordCount → ⊥) → verdict 0 start ws ≡ Some f → Why c ws
+why WordCount ws f e other is = absurd (other refl)
+why NotAWord ws f e other is = no-tree ws f (ap isLimit e) is
+why NoPiece ws f e other is = no-tree ws f (ap isLimit e) is
+why TooManyLetters ws f e other is = too-many ws f e is
+why TooDeep ws f e other is = too-deep ws f e is
+why Unfinished ws f e other is = no-tree ws f (ap isLimit e) is
+
+-- So an expression within the limits is not refused.
+never : (c : Cause) (ws : List ℕ) → Why c ws → (t : Tree) → HasTree ws t → Limited ws → ⊥
+never WordCount ws w t has limited = ⊎-elim (λ e. no-words ws e t has) (λ h. omega (arith, limited .words)) w
+never NotAWord ws w t has limited = w t has
+never NoPiece ws w t has limited = w t has
+never TooManyLetters ws w t has limited = omega (arith, limited .letters)
+never TooDeep ws w t has limited = w (limited .shallow)
+never Unfinished ws w t has limited = w t has
+
+pub refused : (ws : List ℕ) (f : Fault) → 0 < length ws → length ws ≤ 256 → verdict 0 start ws ≡ Some f → Refused ws f
+refused ws f some few is =
+    let reason = why (f .cause) ws f refl (not-count ws f is) is in
+    record {
+      fault = ap (λ (b : Bool). unless 0 (cond b (Some WordCount) None) (verdict 0 start ws)) (or-from _ _ (ne-eqb (length ws) 0 (λ e. omega arith)) (le-ltb 256 (length ws) few)) ∙ is;
+      why = reason;
+      never = never (f .cause) ws reason;
+    }
+
+pub refused-count : (ws : List ℕ) → (length ws ≡ 0) ⊎ (256 < length ws) → Refused ws (record { cause = WordCount; place = 0 })
+refused-count ws h = record {
+  fault =
+      ap (λ (b : Bool). unless 0 (cond b (Some WordCount) None) (verdict 0 start ws))
+      (⊎-elim (λ e. or-left _ _ (eq-eqb (length ws) 0 e)) (λ e. or-right (eqb (length ws) 0) _ (lt-ltb 256 (length ws) e)) h);
+  why = h;
+  never = never WordCount ws h;
+}

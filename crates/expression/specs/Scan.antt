@@ -1,7 +1,8 @@
 -- Where and why an expression is refused: one pass over its words from the left, which stops at the first fault.
 use mathlib.Core.Bool.{Bool, true, false, cond, _||_}
 use mathlib.Core.List.{List, [], _∷_, _++_}
-use Prim.Native.Nat.{ℕ, _+_, _-_}
+use mathlib.Core.Path.{_≡_}
+use Prim.Native.Nat.{ℕ, _+_, _-_, _<_}
 use lib.Dec.{eqb, ltb}
 use lib.ListN.{length}
 use Rattle.std.specs.declared.option.Option.{Option}
@@ -85,3 +86,18 @@ spoken (Some Maybe) = []
 abbrev pub lettersOf : List ℕ → List ℕ
 lettersOf [] = []
 lettersOf (w ∷ ws) = spoken (symbolOf w) ++ lettersOf ws
+
+-- No open stands inside 16 unclosed ones, where d are unclosed before the words.
+abbrev pub deeper : Option Symbol → ℕ → ℕ
+deeper None d = d
+deeper (Some (Letter l)) d = d
+deeper (Some Open) d = d + 1
+deeper (Some Close) d = d - 1
+deeper (Some Bar) d = d
+deeper (Some Star) d = d
+deeper (Some Plus) d = d
+deeper (Some Maybe) d = d
+
+abbrev pub Shallow : ℕ → List ℕ → Type 0
+Shallow d [] = Unit {0}
+Shallow d (w ∷ ws) = (symbolOf w ≡ Some Open → d < mostOpen) × Shallow (deeper (symbolOf w) d) ws
