@@ -8,3 +8,4 @@ pub mod Unique
 pub mod Refusals
 pub mod Trees
 pub mod Whole
+pub mod Worked

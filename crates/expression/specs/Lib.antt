@@ -5,6 +5,7 @@ pub mod Faults
 pub mod Scan
 pub mod Machines
 pub mod Reading
+pub mod Cases
 pub mod Parts
 pub mod Fragments
 pub mod Readers

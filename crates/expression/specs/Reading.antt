@@ -1,4 +1,5 @@
 -- What reading an expression answers.
+use mathlib.Core.Bool.{Bool}
 use mathlib.Core.List.{List}
 use mathlib.Core.Logic.{_⊎_}
 use mathlib.Core.Path.{_≡_}
@@ -7,6 +8,7 @@ use lib.ListN.{length, getD}
 use Rattle.std.specs.declared.option.Option.the-variants.{Some, None}
 use Rattle.std.specs.declared.result.Result.{Result}
 use Rattle.std.specs.declared.result.Result.the-variants.{Ok, Err}
+use Rattle.std.specs.Orderings.{Decides}
 use Rattle.query.specs.Words.{Accepts}
 use Rattle.expression.specs.declared.fault.Cause.{Cause}
 use Rattle.expression.specs.declared.fault.Cause.the-variants.{WordCount, NotAWord, NoPiece, TooManyLetters, TooDeep, Unfinished}
@@ -62,3 +64,8 @@ ReadingAnswers ws m m′ (Err f) = Refused ws f × (m′ ≡ m)
 abbrev pub MachineOf : List ℕ → Result Machine Fault → Type 0
 MachineOf ws (Ok m) = (verdict 0 start ws ≡ None) × Fills ws m
 MachineOf ws (Err f) = verdict 0 start ws ≡ Some f
+
+-- Whether an expression's language has a word: yes exactly where the words denote it.
+abbrev pub Membership : List ℕ → List ℕ → Result Bool Fault → Type 0
+Membership ws w (Ok b) = Decides b (Denotes ws w)
+Membership ws w (Err f) = Refused ws f
