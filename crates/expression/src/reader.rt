@@ -136,14 +136,8 @@ impl<'a> Reader<'a> {
         ensures next { λ r. ⌜ Stopped afterPiece (now (self .exit)) r ⌝ }
     {
         let repeated = match self.peek()? {
-            Some(Symbol::Star) => {
-                self.machine.link(part.last, part.first);
-                part.or_nothing()
-            }
-            Some(Symbol::Plus) => {
-                self.machine.link(part.last, part.first);
-                part
-            }
+            Some(Symbol::Star) => self.machine.star(part),
+            Some(Symbol::Plus) => self.machine.plus(part),
             Some(Symbol::Maybe) => part.or_nothing(),
             _ => return Ok(part),
         };

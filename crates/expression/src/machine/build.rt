@@ -5,7 +5,7 @@ ghost use Prim.Native.Nat.{ℕ, _+_, _≤_, _<_};
 ghost use lib.ListN.{length, getD, set};
 ghost use Rattle.masks.specs.Members.{member};
 ghost use Rattle.expression.specs.Machines.{Empty, linked};
-ghost use Rattle.expression.specs.Parts.{accepted, Within};
+ghost use Rattle.expression.specs.Parts.{accepted, optional, Within};
 use crate::machine::MOST_STATES;
 use crate::machine::Machine;
 use crate::part::Part;
@@ -54,6 +54,29 @@ impl Machine {
         ensures follow { λ _. ⌜ ((s t : ℕ) → linked (now (self .exit)) s t ≡ (linked (now (self .entry)) s t || (member from s && member to t))) ⌝ }
     {
         link_all(&mut self.follow, from, to);
+    }
+
+    // The part again and again, one or more times.
+    pub(crate) fn plus(&mut self, part: Part) -> Part
+        requires { ⌜ Within 0 (now self .letters) part ⌝ }
+        ensures value { λ r. ⌜ r ≡ part ⌝ }
+        ensures letters { λ _. ⌜ now (self .exit) .letters ≡ now (self .entry) .letters ⌝ }
+        ensures labels { λ _. ⌜ now (self .exit) .labels ≡ now (self .entry) .labels ⌝ }
+        ensures follow { λ _. ⌜ ((s t : ℕ) → linked (now (self .exit)) s t ≡ (linked (now (self .entry)) s t || (member (part .last) s && member (part .first) t))) ⌝ }
+    {
+        self.link(part.last, part.first);
+        part
+    }
+
+    // The part any number of times.
+    pub(crate) fn star(&mut self, part: Part) -> Part
+        requires { ⌜ Within 0 (now self .letters) part ⌝ }
+        ensures value { λ r. ⌜ r ≡ optional part ⌝ }
+        ensures letters { λ _. ⌜ now (self .exit) .letters ≡ now (self .entry) .letters ⌝ }
+        ensures labels { λ _. ⌜ now (self .exit) .labels ≡ now (self .entry) .labels ⌝ }
+        ensures follow { λ _. ⌜ ((s t : ℕ) → linked (now (self .exit)) s t ≡ (linked (now (self .entry)) s t || (member (part .last) s && member (part .first) t))) ⌝ }
+    {
+        self.plus(part).or_nothing()
     }
 
     // The whole expression is read: its first letters follow the start, and its last ones accept, with the start where nothing will do.
