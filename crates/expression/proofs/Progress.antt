@@ -29,16 +29,6 @@ use Rattle.expression.specs.Scan.{Scan, verdict, objection, onward, lettersOf,
 use Rattle.expression.specs.Symbols.{symbolOf}
 use Rattle.expression.proofs.Scans.{verdict-stop, verdict-on, letters-on, fault-is}
 
--- Part of a word's fault that is known at once: a symbol that is refused there.
-pub stuck : (r : Reader) (b : Bool) (y : Symbol) (c : Cause) (f : Fault) → Peeked r (Ok (Some y)) → objection (scanAt r b) y ≡ Some c → f .cause ≡ c → f .place ≡ r .place → ahead r b ≡ Some f
-stuck r b y c f peek no-good cause place =
-    ap (verdict (r .place) (scanAt r b)) (peek .1) ∙ verdict-stop (r .place) (scanAt r b) (peek .0) _ y c (peek .2) no-good ∙ sym (fault-is cause place)
-
--- The words end where a piece must begin or something is open.
-pub short : (r : Reader) (b : Bool) (f : Fault) → left r ≡ [] → (b || ltb 0 (r .depth)) ≡ true → f .cause ≡ Unfinished → f .place ≡ r .place → ahead r b ≡ Some f
-short r b f none due cause place =
-    ap (verdict (r .place) (scanAt r b)) none ∙ ap (λ x. unless (r .place) (cond x (Some Unfinished) None) None) due ∙ sym (fault-is cause place)
-
 -- One symbol on: the words are the same, and the place is the next.
 pub record Next (r r′ : Reader) : Type 0 where
   pub words : r′ .words .now ≡ r .words .now
@@ -92,36 +82,10 @@ went-on p q = record {
   faults = p .faults ∙ q .faults;
 }
 
--- A wider range holds what a narrower one does.
-pub within-wider : (lo lo′ hi hi′ : ℕ) (p : Part) → lo′ ≤ lo → hi ≤ hi′ → Within lo hi p → Within lo′ hi′ p
-within-wider lo lo′ hi hi′ p l h w = record {
-  first = λ t e. let r = w .first t e in (omega (arith, r .0), omega (arith, r .1));
-  last = λ t e. let r = w .last t e in (omega (arith, r .0), omega (arith, r .1));
-}
-
-module _ (lo hi : ℕ) (a b p : Part) (wa : Within lo hi a) (wb : Within lo hi b) where
-  pub within-or : Either a b p → Within lo hi p
-  within-or e = record {
-    first = λ t m. ⊎-elim (wa .first t) (wb .first t) (or-cases _ _ (sym (e .first t) ∙ m));
-    last = λ t m. ⊎-elim (wa .last t) (wb .last t) (or-cases _ _ (sym (e .last t) ∙ m));
-  }
-
-  pub within-then : Then a b p → Within lo hi p
-  within-then e = record {
-    first = λ t m. ⊎-elim (wa .first t) (λ x. wb .first t (and-parts _ _ x .1)) (or-cases _ _ (sym (e .first t) ∙ m));
-    last = λ t m. ⊎-elim (wb .last t) (λ x. wa .last t (and-parts _ _ x .1)) (or-cases _ _ (sym (e .last t) ∙ m));
-  }
-
 -- A letter's own state alone.
 pub alone : (set k : ℕ) → ((j : ℕ) → member set j ≡ withMember 0 k j) → (t : ℕ) → member set t ≡ true → t ≡ k
 alone set k is t e =
     ⊎-elim (λ none. absurd (both-ways _ (member-none t) none)) (λ one. eqb-true t k (and-parts (ltb k 32) _ one .1)) (or-cases _ _ (sym (is t) ∙ e))
-
-pub within-letter : (lo hi k set : ℕ) → k ≡ lo + 1 → hi ≡ k → ((j : ℕ) → member set j ≡ withMember 0 k j) → Within lo hi (record { nullable = false; first = set; last = set })
-within-letter lo hi k set next top is = record { first = at; last = at }
-  where
-    at : (t : ℕ) → member set t ≡ true → (lo < t) × (t ≤ hi)
-    at t e = let same = alone set k is t e in (omega arith, omega arith)
 
 -- A label is at most 15.
 pub label-small : (w l : ℕ) → symbolOf w ≡ Some (Letter l) → l ≤ 15

@@ -1,8 +1,9 @@
--- What the numbers of the refusals are.
+-- The causes for which an expression is refused.
 use Prim.Native.Nat.{ℕ}
 use Rattle.expression.specs.declared.fault.Cause.{Cause}
 use Rattle.expression.specs.declared.fault.Cause.the-variants.{WordCount, NotAWord, NoPiece, TooManyLetters, TooDeep, Unfinished}
 
+-- The number by which a cause is told.
 abbrev pub causeNumber : Cause → ℕ
 causeNumber WordCount = 20
 causeNumber NotAWord = 21

@@ -14,13 +14,15 @@ use Rattle.expression.specs.declared.symbol.Symbol.{Symbol}
 use Rattle.expression.specs.declared.symbol.Symbol.the-variants.{Letter, Open, Close, Bar, Star, Plus, Maybe}
 use Rattle.expression.specs.Symbols.{symbolOf}
 
--- The limits of an expression.
+-- An expression has at most this many words,
 abbrev pub mostWords : ℕ
 mostWords = 256
 
+-- this many letters,
 abbrev pub mostLetters : ℕ
 mostLetters = 31
 
+-- and this many brackets open at once.
 abbrev pub mostOpen : ℕ
 mostOpen = 16
 
@@ -30,6 +32,7 @@ pub record Scan : Type 0 where
   pub letters : ℕ
   pub begins : Bool
 
+-- Before the first word a piece must begin.
 abbrev pub start : Scan
 start = record { depth = 0; letters = 0; begins = true }
 
@@ -72,7 +75,7 @@ verdict p s (w ∷ ws) = judged p s (symbolOf w) (λ y. verdict (p + 1) (onward 
 abbrev pub readingFault : List ℕ → Option Fault
 readingFault ws = unless 0 (cond (eqb (length ws) 0 || ltb mostWords (length ws)) (Some WordCount) None) (verdict 0 start ws)
 
--- The labels of the letters among the words, in order.
+-- The label of a letter, and nothing of another symbol.
 abbrev pub spoken : Option Symbol → List ℕ
 spoken None = []
 spoken (Some (Letter l)) = l ∷ []
@@ -83,11 +86,12 @@ spoken (Some Star) = []
 spoken (Some Plus) = []
 spoken (Some Maybe) = []
 
+-- The labels of the letters among the words, in order.
 abbrev pub lettersOf : List ℕ → List ℕ
 lettersOf [] = []
 lettersOf (w ∷ ws) = spoken (symbolOf w) ++ lettersOf ws
 
--- No open stands inside 16 unclosed ones, where d are unclosed before the words.
+-- How many brackets are open after a symbol, where d were before it.
 abbrev pub deeper : Option Symbol → ℕ → ℕ
 deeper None d = d
 deeper (Some (Letter l)) d = d
@@ -98,6 +102,7 @@ deeper (Some Star) d = d
 deeper (Some Plus) d = d
 deeper (Some Maybe) d = d
 
+-- No open stands inside 16 unclosed ones, where d are unclosed before the words.
 abbrev pub Shallow : ℕ → List ℕ → Type 0
 Shallow d [] = Unit {0}
 Shallow d (w ∷ ws) = (symbolOf w ≡ Some Open → d < mostOpen) × Shallow (deeper (symbolOf w) d) ws

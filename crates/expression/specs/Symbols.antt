@@ -1,4 +1,4 @@
--- Which expression word stands for which symbol: the kind is in the top four bits, a letter's label in the lowest four, and all other bits are zero.
+-- Expression words.
 use mathlib.Core.Bool.{cond, _&&_}
 use Prim.Native.Nat.{ℕ, _-_}
 use lib.Dec.{eqb, leb}
@@ -7,6 +7,7 @@ use Rattle.std.specs.declared.option.Option.the-variants.{Some, None}
 use Rattle.expression.specs.declared.symbol.Symbol.{Symbol}
 use Rattle.expression.specs.declared.symbol.Symbol.the-variants.{Letter, Open, Close, Bar, Star, Plus, Maybe}
 
+-- Which symbol a word stands for: its kind is in the top four bits, a letter's label in the lowest four, and all other bits are zero.
 unfoldable pub symbolOf : ℕ → Option Symbol
 symbolOf w =
     cond (leb 0x10000000 w && leb w 0x1000000F) (Some (Letter (w - 0x10000000)))

@@ -16,6 +16,7 @@ layerOf (Tape TooLong) = 2
 layerOf (Tape (Expression f)) = 1
 layerOf (Watch x) = 3
 
+-- The number by which a fault is told.
 abbrev pub numberOf : RunFault → ℕ
 numberOf (Tape (Short w)) = 30
 numberOf (Tape (Stray w)) = 31

@@ -18,6 +18,7 @@ abbrev pub fields : List ℕ → List ℕ
 fields [] = 10 ∷ []
 fields (n ∷ ns) = 32 ∷ (decimal n ++ fields ns)
 
+-- A line's word and its numbers.
 abbrev pub lineBytes : Line → List ℕ
 lineBytes (Start n size) = codes "start" ++ fields (n ∷ size ∷ [])
 lineBytes (Fault f) = codes "fault" ++ fields (layerOf f ∷ numberOf f ∷ wordOf f ∷ [])
@@ -33,5 +34,6 @@ Writes bytes memory memory′ (Ok count) =
     (length bytes ≤ length memory) × (count ≡ length bytes) × (memory′ ≡ bytes ++ drop (length bytes) memory)
 Writes bytes memory memory′ (Err e) = (length memory < length bytes) × (e ≡ TooShort) × (memory′ ≡ memory)
 
-abbrev pub refusalNumber : LineRefusal → ℕ
-refusalNumber TooShort = 33
+-- The number by which the refusal is told.
+abbrev pub lineRefusalNumber : LineRefusal → ℕ
+lineRefusalNumber TooShort = 33

@@ -1,4 +1,4 @@
--- The words of a tape's bytes: four bytes make a word, low byte first. Fewer than four at the end make none.
+-- From a tape's bytes to its words.
 use mathlib.Core.List.{List, [], _∷_, _++_}
 use mathlib.Core.Path.{_≡_}
 use Prim.Native.Nat.{ℕ, _+_, _*_, _/_, _≤_, _<_}
@@ -8,9 +8,11 @@ use Rattle.std.specs.declared.result.Result.the-variants.{Ok, Err}
 use Rattle.records.specs.declared.fault.TapeFault.{TapeFault}
 use Rattle.records.specs.declared.fault.TapeFault.the-variants.{TooLong}
 
+-- Four bytes make a word, low byte first.
 abbrev pub wordOfBytes : ℕ → ℕ → ℕ → ℕ → ℕ
 wordOfBytes a b c d = a + 256 * (b + 256 * (c + 256 * d))
 
+-- Fewer than four bytes at the end make no word.
 abbrev pub wordsOf : List ℕ → List ℕ
 wordsOf [] = []
 wordsOf (a ∷ []) = []
@@ -18,6 +20,7 @@ wordsOf (a ∷ b ∷ []) = []
 wordsOf (a ∷ b ∷ c ∷ []) = []
 wordsOf (a ∷ b ∷ c ∷ d ∷ bytes) = wordOfBytes a b c d ∷ wordsOf bytes
 
+-- A tape has at most this many bytes.
 abbrev pub mostBytes : ℕ
 mostBytes = 8192
 

@@ -23,11 +23,12 @@ use Rattle.records.specs.Records.{Shape, start, advance, add, drop, startShape
 abbrev pub arrivals : ℕ
 arrivals = 2048
 
--- What comes before the opening: the start is not whole or has a stray word, or else its expression is refused.
+-- An expression's fault as the tape's.
 abbrev pub readFault : Option Fault → Option TapeFault
 readFault (Some f) = Some (Expression f)
 readFault None = None
 
+-- What comes before the opening: the start is not whole or has a stray word, or else its expression is refused.
 abbrev pub shapeFault : Result Shape TapeFault → Option TapeFault
 shapeFault (Err f) = Some f
 shapeFault (Ok (start n window e)) = readFault (readingFault e)
@@ -43,6 +44,7 @@ pub record Holds (ws : List ℕ) (b : Begun) : Type 0 where
   pub fills : Fills expression (b .machine)
   pub place : b .place ≡ length expression + 2
 
+-- A start that can be read, or its fault.
 abbrev pub ReadsStart : List ℕ → Result Begun TapeFault → Type 0
 ReadsStart ws (Ok b) = Holds ws b
 ReadsStart ws (Err f) = shapeFault (startShape ws) ≡ Some f

@@ -3,6 +3,7 @@ ghost use mathlib.Core.Path.{_≡_};
 ghost use Rattle.records.specs.declared.fault.TapeFault.the-variants.{Expression};
 ghost use Rattle.records.specs.declared.fault.RunFault.the-variants.{Tape, Watch};
 ghost use Rattle.records.specs.Faults.{layerOf, numberOf, wordOf};
+use crate::load::MOST_WORDS;
 use expression::fault::Fault;
 use watch::refusal::Refusal;
 
@@ -88,7 +89,7 @@ impl RunFault {
             RunFault::Tape { fault } => match fault {
                 TapeFault::Short { word } => word,
                 TapeFault::Stray { word } => word,
-                TapeFault::TooLong => 2048,
+                TapeFault::TooLong => MOST_WORDS,
                 TapeFault::Expression { fault } => fault.place.saturating_add(2),
             },
             RunFault::Watch { .. } => 0,

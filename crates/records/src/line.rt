@@ -4,7 +4,7 @@ ghost use mathlib.Core.Path.{_≡_};
 ghost use Prim.Native.Nat.{_+_, _≤_};
 ghost use lib.ListN.{length};
 ghost use Rattle.std.specs.Written.{decimal};
-ghost use Rattle.records.specs.Lines.{lineBytes, fields, Writes, Puts, refusalNumber};
+ghost use Rattle.records.specs.Lines.{lineBytes, fields, Writes, Puts, lineRefusalNumber};
 use crate::fault::RunFault;
 
 /// A line of the output.
@@ -28,7 +28,7 @@ pub enum LineRefusal {
 impl LineRefusal {
     /// The number by which the refusal is told to users.
     pub fn number(self) -> u32
-        ensures { λ r. ⌜ r ≡ refusalNumber self ⌝ }
+        ensures { λ r. ⌜ r ≡ lineRefusalNumber self ⌝ }
     {
         match self {
             LineRefusal::TooShort => 33,

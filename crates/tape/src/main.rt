@@ -15,12 +15,11 @@ use records::record;
 use records::start;
 use records::start::Begun;
 use std::error::AnyError;
-use std::io;
 use std::io::Read;
 use std::io::Write;
 
 /// One byte more than a tape may have, so that a longer one is seen.
-const INPUT: usize = 8193;
+const INPUT: usize = MOST_BYTES + 1;
 
 /// Every line so far is far shorter.
 const LINE: usize = 128;

@@ -7,12 +7,15 @@ use Rattle.std.specs.declared.result.Result.the-variants.{Ok, Err}
 use Rattle.watch.specs.declared.refusal.Refusal.{Refusal}
 use Rattle.watch.specs.declared.refusal.Refusal.the-variants.{Points, Window, States, Arrivals}
 
+-- A watch has at most this many points.
 abbrev pub mostPoints : ℕ
 mostPoints = 64
 
+-- The clock counts milliseconds from 0 to this; a window is at most this.
 abbrev pub lastClock : ℕ
 lastClock = 268435455
 
+-- The size of a query that has too many states.
 abbrev pub tooManyStates : ℕ
 tooManyStates = 33
 

@@ -1,8 +1,9 @@
--- What the numbers of the refusals are.
+-- The watch's refusals.
 use Prim.Native.Nat.{ℕ}
 use Rattle.watch.specs.declared.refusal.Refusal.{Refusal}
 use Rattle.watch.specs.declared.refusal.Refusal.the-variants.{Points, Window, States, Arrivals}
 
+-- The number by which a refusal is told.
 abbrev pub refusalNumber : Refusal → ℕ
 refusalNumber Points = 3
 refusalNumber Window = 4

@@ -23,8 +23,8 @@ impl Machine {
         }
     }
 
-    /// How many letters the expression has.
-    pub fn letters(&self) -> u32
+    // How many letters came so far.
+    pub(crate) fn letters(&self) -> u32
         ensures { λ r. ⌜ r ≡ now (self .entry) .letters ⌝ }
     {
         self.letters
