@@ -1,2 +1,3 @@
+pub mod Product
 pub mod Runs
 pub mod Sets

@@ -1,5 +1,6 @@
 // Queries: which sequences of links are wanted, as a machine that goes over a word of labels.
 pub mod accept;
+pub mod both;
 
 ghost use mathlib.Core.Path.{_≡_};
 ghost use denote.Ref.{now};

@@ -15,10 +15,10 @@ pub loop-state-again : need.loop-state-again
 loop-state-again g c =
     let P : ℕ → Type 0 = Next (g .Q·Query .meaning (c .args .query .now)) (c .args .from) (c .args .label) in
     elim (c .if-is-next .came) [
-      then-is-next w ↦
+      | then-is-next w ↦
           subst (λ n. Sofar P n (c .loop-state .state + 1)) (sym (w .next-is))
           (sofar-in P _ _ _ (c .loop-state-test .taken) (c .is-next .ensures .0 (w .if-is-next .taken)) (w .with-next .ensures) (c .loop-state .inv))
-    | else-is-next w ↦
+      | else-is-next w ↦
           subst (λ n. Sofar P n (c .loop-state .state + 1)) (sym (w .next-is))
           (sofar-out P _ _ (not-from-decides {P = P (c .loop-state .state)} _ (c .is-next .ensures) (w .if-is-next .left)) (c .loop-state .inv))
     ]
