@@ -1,3 +1,5 @@
 pub mod Chains
 pub mod Pigeons
 pub mod Tables
+pub mod Balance
+pub mod Alone
