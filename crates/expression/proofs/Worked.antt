@@ -14,14 +14,14 @@ use Rattle.expression.specs.Symbols.{symbolOf}
 use Rattle.expression.proofs.Unique.{one-tree}
 
 -- A letter alone, with nothing after it.
-one-letter : (l : ℕ) (ws : List ℕ) → symbolOf (letterWord l) ≡ Some (Letter l) → Piece (letterWord l ∷ ws) ws (letter l)
+pub one-letter : (l : ℕ) (ws : List ℕ) → symbolOf (letterWord l) ≡ Some (Letter l) → Piece (letterWord l ∷ ws) ws (letter l)
 one-letter l ws e = piece (letter-atom e) done
 
-word-one : symbolOf (letterWord 1) ≡ Some (Letter 1)
+pub word-one : symbolOf (letterWord 1) ≡ Some (Letter 1)
 unfolding symbolOf
 word-one = refl
 
-word-two : symbolOf (letterWord 2) ≡ Some (Letter 2)
+pub word-two : symbolOf (letterWord 2) ≡ Some (Letter 2)
 unfolding symbolOf
 word-two = refl
 

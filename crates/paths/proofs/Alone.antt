@@ -157,10 +157,10 @@ quiet-row memory h f (then es s′ s″ e row out) quiet =
     quiet-call memory h (r .0) s″ (e .call) (e .answer) (e .report) (subst (λ x. Takes memory x (e .call) (e .answer) (e .report) s″) (r .1) out) (quiet .0) (r .2)
 
 -- What a counting link tells: the link is kept, and neither end is in maintenance.
-blocked : Held → Triple → Bool
+unfoldable pub blocked : Held → Triple → Bool
 blocked h t = inMaintenance h (t .from) || inMaintenance h (t .to)
 
-counts-at : (h : Held) (t : Triple) → isSome (counting h t) ≡ true → (time : ℕ) × (h .links t ≡ Some time) × (blocked h t ≡ false) × (timeOf (counting h) t ≡ time)
+pub counts-at : (h : Held) (t : Triple) → isSome (counting h t) ≡ true → (time : ℕ) × (h .links t ≡ Some time) × (blocked h t ≡ false) × (timeOf (counting h) t ≡ time)
 unfolding blocked
 counts-at h t e = go (blocked h t) refl (h .links t) refl e
   where

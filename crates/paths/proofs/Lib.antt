@@ -3,3 +3,4 @@ pub mod Pigeons
 pub mod Tables
 pub mod Balance
 pub mod Alone
+pub mod Worked

@@ -5,3 +5,4 @@ pub mod Pairs
 pub mod Tables
 pub mod Plain
 pub mod Runs
+pub mod Cases

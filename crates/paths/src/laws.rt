@@ -1,4 +1,5 @@
 // The laws of the definitions. Each function's contract is one of them.
+ghost use Rattle.paths.specs.Cases.{WorkedCases};
 ghost use Rattle.paths.specs.Runs.{BalanceLaw, LeftAloneLaw};
 ghost use Rattle.paths.specs.Tables.{TableLaw};
 
@@ -19,6 +20,13 @@ pub fn balance() -> u8
 /// A pair left alone stands until its time plus the window, and not from there on.
 pub fn left_alone() -> u8
     ensures { λ _. ⌜ LeftAloneLaw ⌝ }
+{
+    0
+}
+
+/// The definitions answer the worked cases as they should.
+pub fn cases() -> u8
+    ensures { λ _. ⌜ WorkedCases ⌝ }
 {
     0
 }
