@@ -74,7 +74,7 @@ fresh-changed h (leaving tag p room) f = record { window = f .window; kept = f .
 
 fresh-opened : (memory : Memory) (n window tag : ℕ) (query : Meaning) → refusal memory idle (opening n window tag query) ≡ None → FreshPlain (after idle (opening n window tag query))
 fresh-opened memory n window tag query e =
-    let ok = none-hold (openRefusals memory n window query) e in
+    let ok = none-hold (openRefusals (memory .arrivals) n window (query .size)) e in
     let c = eqb-false window 0 (or-parts (eqb window 0) (ltb lastClock window) (ok .1 .0) .0) in
     record { window = omega arith; kept = λ t time x. none-some time x }
 

@@ -97,12 +97,12 @@ abbrev pub badLink : Held → Triple → List Refusal → List Refusal
 badLink h t rest = refuse (leb (h .n) (t .from) || leb (h .n) (t .to)) 8 ∷ refuse (ltb lastLabel (t .label)) 9 ∷ rest
 
 -- The refusals of each call on a watch that can take it, in order.
-abbrev pub openRefusals : Memory → ℕ → ℕ → Meaning → List Refusal
-openRefusals memory n window query =
+abbrev pub openRefusals : ℕ → ℕ → ℕ → ℕ → List Refusal
+openRefusals arrivals n window size =
     refuse (eqb n 0 || ltb mostPoints n) 3 ∷
     refuse (eqb window 0 || ltb lastClock window) 4 ∷
-    refuse (eqb (query .size) (mostStates + 1)) 5 ∷
-    refuse (ltb (memory .arrivals) (n * n * query .size)) 6 ∷ []
+    refuse (eqb size (mostStates + 1)) 5 ∷
+    refuse (ltb arrivals (n * n * size)) 6 ∷ []
 
 abbrev pub addRefusals : Memory → Held → Triple → ℕ → List Refusal
 addRefusals memory h t room = shortReport h room ∷ badLink h t (refuse (not (isSome (h .links t)) && eqb (keptLinks h) (capacity memory)) 10 ∷ [])
@@ -121,7 +121,7 @@ leaveRefusals h tag p room = shortReport h room ∷ refuse (not (eqb tag (h .tag
 
 -- The number of the first refusal that holds, or none. 1: the watch is idle. 2: it is open already.
 abbrev pub refusal : Memory → Plain → Call → Option ℕ
-refusal memory idle (opening n window tag query) = firstOf (openRefusals memory n window query)
+refusal memory idle (opening n window tag query) = firstOf (openRefusals (memory .arrivals) n window (query .size))
 refusal memory idle (adding t room) = Some 1
 refusal memory idle (dropping t room) = Some 1
 refusal memory idle (advancing clock room) = Some 1

@@ -11,6 +11,7 @@ use Rattle.query.specs.Meaning.{Meaning, Lawful}
 use Rattle.paths.specs.Links.{Links, Triple}
 use Rattle.paths.specs.Paths.{timeOf, pathTime}
 use Rattle.paths.specs.Arrivals.{Arrives, Reached, ArrivalTime}
+use Rattle.paths.specs.Pairs.{PairTime}
 
 -- A last step: a link, after the start itself in state 0, or after the arrival of this state where the link comes from.
 pub record Step : Type 0 where
@@ -47,11 +48,25 @@ pub record Closed (G : Links) (m : Meaning) (a : ℕ) (T : Table) : Type 0 where
   pub start : (t : Triple) (s : ℕ) → isSome (G t) ≡ true → t .from ≡ a → m .moves 0 (t .label) s ≡ true → linkRank G t ≤ T .rank (t .to) s
   pub later : (t : Triple) (q s : ℕ) → isSome (G t) ≡ true → m .moves q (t .label) s ≡ true → min (T .rank (t .from) q) (linkRank G t) ≤ T .rank (t .to) s
 
+-- A last step changes where it names another triple, comes after another arrival or the start in an arrival's stead or the reverse, and where
+-- the arrival gets or loses it. A new last step further back is no change of this one.
+abbrev pub StepChanges : Table → Table → ℕ → ℕ → Type 0
+StepChanges T T′ b s = T .last b s ≡ T′ .last b s → ⊥
+
 -- The table is right: it has just the reached arrivals, with their times, and each shown path is a path of its arrival's time.
 pub record Right (G : Links) (m : Meaning) (a : ℕ) (T : Table) : Type 0 where
   pub reached : (b s : ℕ) → 0 < T .rank b s → ArrivalTime G m a b s (T .rank b s - 1)
   pub only : (b s : ℕ) → Reached G m a b s → 0 < T .rank b s
   pub shows : (b s : ℕ) (ts : List Triple) → Shown G m a T b s ts → Arrives G m a b s ts × (pathTime G ts + 1 ≡ T .rank b s)
+
+-- The shown path of a pair is that of the lowest accepting state with the pair's time.
+pub record PairShown (G : Links) (m : Meaning) (a : ℕ) (T : Table) (b : ℕ) (ts : List Triple) : Type 0 where
+  pub state : ℕ
+  pub accepts : m .accepting state ≡ true
+  pub reached : 0 < T .rank b state
+  pub time : PairTime G m a b (T .rank b state - 1)
+  pub lowest : (s : ℕ) → m .accepting s ≡ true → T .rank b s ≡ T .rank b state → state ≤ s
+  pub shown : Shown G m a T b state ts
 
 -- All points are below n.
 abbrev pub Below : ℕ → Links → Type 0

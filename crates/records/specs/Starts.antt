@@ -11,7 +11,8 @@ use Rattle.expression.specs.declared.fault.Fault.{Fault}
 use Rattle.expression.specs.Reading.{Fills}
 use Rattle.expression.specs.Scan.{readingFault, lettersOf}
 use Rattle.watch.specs.declared.refusal.Refusal.{Refusal}
-use Rattle.watch.specs.Opening.{openingAnswer}
+use Rattle.paths.specs.Plain.{firstOf, openRefusals}
+use Rattle.watch.specs.Refusals.{refusalNumber}
 use Rattle.records.specs.declared.fault.TapeFault.{TapeFault}
 use Rattle.records.specs.declared.fault.TapeFault.the-variants.{Expression}
 use Rattle.records.specs.declared.fault.RunFault.{RunFault}
@@ -49,9 +50,9 @@ abbrev pub ReadsStart : List ℕ → Result Begun TapeFault → Type 0
 ReadsStart ws (Ok b) = Holds ws b
 ReadsStart ws (Err f) = shapeFault (startShape ws) ≡ Some f
 
--- What opening a watch of n points over the expression's machine and the program's arrival records answers.
-abbrev pub opens : ℕ → ℕ → List ℕ → Result (Unit {0}) Refusal
-opens n window e = openingAnswer n window (length (lettersOf e) + 1) arrivals
+-- The number of the refusal, if there is one, when a watch of n points is opened over the expression's machine and the program's arrival records.
+abbrev pub opens : ℕ → ℕ → List ℕ → Option ℕ
+opens n window e = firstOf (openRefusals arrivals n window (length (lettersOf e) + 1))
 
 -- A start that can be read is refused where the opening is.
 pub record NotOpened (ws : List ℕ) (x : Refusal) : Type 0 where
@@ -60,10 +61,10 @@ pub record NotOpened (ws : List ℕ) (x : Refusal) : Type 0 where
   pub expression : List ℕ
   pub shape : startShape ws ≡ Ok (start n window expression)
   pub reads : readingFault expression ≡ None
-  pub refused : opens n window expression ≡ Err x
+  pub refused : opens n window expression ≡ Some (refusalNumber x)
 
 -- A start is refused by its own fault or its expression's, or else by the opening's.
 abbrev pub Begins : List ℕ → Result Begun RunFault → Type 0
-Begins ws (Ok b) = (h : Holds ws b) × (opens (b .n) (b .window) (h .expression) ≡ Ok tt)
+Begins ws (Ok b) = (h : Holds ws b) × (opens (b .n) (b .window) (h .expression) ≡ None)
 Begins ws (Err (Tape f)) = shapeFault (startShape ws) ≡ Some f
 Begins ws (Err (Watch x)) = NotOpened ws x

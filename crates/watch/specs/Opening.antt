@@ -1,28 +1,19 @@
--- What opening a watch answers, by the number of points, the window, the query's size and the number of arrival records.
-use mathlib.Core.Bool.{cond, _||_}
-use Prim.Native.Nat.{ℕ, _*_}
-use lib.Dec.{eqb, ltb}
+-- What opening a watch answers: the first refusal of the plain watch that holds, by its number, or none.
+use mathlib.Core.Path.{_≡_}
+use Prim.Native.Nat.{ℕ}
+use Rattle.std.specs.declared.option.Option.{Option}
+use Rattle.std.specs.declared.option.Option.the-variants.{Some, None}
 use Rattle.std.specs.declared.result.Result.{Result}
 use Rattle.std.specs.declared.result.Result.the-variants.{Ok, Err}
+use Rattle.paths.specs.Plain.{firstOf, openRefusals}
 use Rattle.watch.specs.declared.refusal.Refusal.{Refusal}
-use Rattle.watch.specs.declared.refusal.Refusal.the-variants.{Points, Window, States, Arrivals}
+use Rattle.watch.specs.Refusals.{refusalNumber}
 
--- A watch has at most this many points.
-abbrev pub mostPoints : ℕ
-mostPoints = 64
+-- The number that an answer tells, if it is a refusal.
+abbrev pub toldNumber : Result (Unit {0}) Refusal → Option ℕ
+toldNumber (Ok x) = None
+toldNumber (Err r) = Some (refusalNumber r)
 
--- The clock counts milliseconds from 0 to this; a window is at most this.
-abbrev pub lastClock : ℕ
-lastClock = 268435455
-
--- The size of a query that has too many states.
-abbrev pub tooManyStates : ℕ
-tooManyStates = 33
-
--- The first refusal of these that fits, or none.
-abbrev pub openingAnswer : ℕ → ℕ → ℕ → ℕ → Result (Unit {0}) Refusal
-openingAnswer n window size arrivals =
-    cond (eqb n 0 || ltb mostPoints n) (Err Points)
-    (cond (eqb window 0 || ltb lastClock window) (Err Window)
-    (cond (eqb size tooManyStates) (Err States)
-    (cond (ltb arrivals (n * n * size)) (Err Arrivals) (Ok tt))))
+-- By the number of arrival records and of points, the window and the query's size.
+abbrev pub OpeningAnswers : ℕ → ℕ → ℕ → ℕ → Result (Unit {0}) Refusal → Type 0
+OpeningAnswers arrivals n window size r = toldNumber r ≡ firstOf (openRefusals arrivals n window size)

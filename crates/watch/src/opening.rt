@@ -1,7 +1,7 @@
 // What opening a watch asks of its numbers, its query and its arrival memory.
 ghost use mathlib.Core.Path.{_≡_};
 ghost use Prim.Native.Nat.{_*_, _≤_};
-ghost use Rattle.watch.specs.Opening.{openingAnswer};
+ghost use Rattle.watch.specs.Opening.{OpeningAnswers};
 use crate::refusal::Refusal;
 use query::Query;
 
@@ -19,7 +19,7 @@ const TOO_MANY_STATES: u32 = 33;
 /// Refused, in this order, are n of 0 or above 64, a window of 0 or above the last clock, a query of too many states,
 /// and fewer than n × n × size arrival records.
 pub fn check<Q: Query>(n: u32, window: u32, query: &Q, arrivals: usize) -> Result<(), Refusal>
-    ensures { λ r. ⌜ r ≡ openingAnswer n window (meaning (now (query .entry)) .size) arrivals ⌝ }
+    ensures { λ r. ⌜ OpeningAnswers arrivals n window (meaning (now (query .entry)) .size) r ⌝ }
 {
     if n == 0 || n > MOST_POINTS {
         return Err(Refusal::Points);

@@ -1,6 +1,6 @@
 use mathlib.Core.Path.{sym, ap, _∙_}
 use Rattle.std.proofs.shelf.Results.{err-from-errBy}
-use Rattle.watch.specs.Opening.{openingAnswer}
+use Rattle.paths.specs.Plain.{firstOf, openRefusals}
 use Rattle.records.specs.Starts.{arrivals}
 use Rattle.records.proofs.start.begin.Needs as need
 
@@ -15,11 +15,11 @@ returns-in-Break-check c =
       expression = held .expression;
       shape = held .shape;
       reads = held .reads;
-      refused = ap (λ size. openingAnswer (b .n) (b .window) size arrivals) (sym (held .fills .size)) ∙ sym (c .in-Break-check .ensures tt);
+      refused = ap (λ size. firstOf (openRefusals arrivals (b .n) (b .window) size)) (sym (held .fills .size)) ∙ sym (c .in-Break-check .ensures tt);
     })
 
 pub returns : need.returns
 returns c =
     let b = c .in-Continue-begun .begun in
     let held = c .in-Continue-begun .ensures tt in
-    (held, ap (λ size. openingAnswer (b .n) (b .window) size arrivals) (sym (held .fills .size)) ∙ sym (c .in-Continue-check .ensures tt))
+    (held, ap (λ size. firstOf (openRefusals arrivals (b .n) (b .window) size)) (sym (held .fills .size)) ∙ sym (c .in-Continue-check .ensures tt))
