@@ -18,7 +18,7 @@ use Rattle.query.specs.Words.{Leads}
 use Rattle.query.proofs.Runs.{leads-push}
 use Rattle.paths.specs.Links.{Links, Triple}
 use Rattle.paths.specs.Paths.{Chain, Path, word, pathTime}
-use Rattle.paths.specs.Arrivals.{Arrives, Reached, ArrivalTime}
+use Rattle.paths.specs.Arrivals.{Arrives, Reached, ArrivalTime, LastStep}
 use Rattle.paths.specs.Tables.{Step, Table, linkRank, Into, Shown, first, next, Supported, Closed, Right, Below, TableLaw}
 use Rattle.paths.proofs.Chains.{chain-join, word-join, AtLeast, at-least-less, at-least-join, time-at-least, at-least-time}
 use Rattle.paths.proofs.Pigeons.{Different, at-most}
@@ -57,6 +57,13 @@ module _ {G : Links} {m : Meaning} {a : ℕ} {T : Table} where
       let r = shown-arrives shown in
       (r .0, omega (arith, path-below c b s ts (r .0), at-least-time G (T .rank b s) ts (r .0 .path .some) (r .1)))
 
+  -- The last step of a shown path is one of its arrival.
+  shown-last : {b s : ℕ} {ts : List Triple} → Shown G m a T b s ts → (step : Step) × (T .last b s ≡ Some step) × LastStep G m a b s (step .link)
+  shown-last (first b s t last into from move) =
+      (record { link = t; before = None }, last, record { there = into .there; ends = into .ends; after = inl (from, move) })
+  shown-last (next b s t c q ts last into from move more shown) =
+      (record { link = t; before = Some q }, last, record { there = into .there; ends = into .ends; after = inr (q, subst (λ x. Reached G m a x q) (sym from) (ts, shown-arrives shown .0), move) })
+
   pub right : Supported G m a T → Closed G m a T → Right G m a T
   right up c = record {
     reached = λ b s h.
@@ -64,6 +71,7 @@ module _ {G : Links} {m : Meaning} {a : ℕ} {T : Table} where
         let r = shown-time c b s (x .0) (x .1) in
         record { path = x .0; arrives = r .0; time = omega (arith, r .1); most = λ ts arrives. omega (arith, path-below c b s ts arrives) };
     only = λ b s x. omega (arith, path-below c b s (x .0) (x .1));
+    lasts = λ b s h. shown-last (up .shown b s h .1);
     shows = shown-time c;
   }
 

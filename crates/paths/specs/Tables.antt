@@ -10,7 +10,7 @@ use Rattle.std.specs.declared.option.Option.the-variants.{Some, None}
 use Rattle.query.specs.Meaning.{Meaning, Lawful}
 use Rattle.paths.specs.Links.{Links, Triple}
 use Rattle.paths.specs.Paths.{timeOf, pathTime}
-use Rattle.paths.specs.Arrivals.{Arrives, Reached, ArrivalTime}
+use Rattle.paths.specs.Arrivals.{Arrives, Reached, ArrivalTime, LastStep}
 use Rattle.paths.specs.Pairs.{PairTime}
 
 -- A last step: a link, after the start itself in state 0, or after the arrival of this state where the link comes from.
@@ -53,10 +53,11 @@ pub record Closed (G : Links) (m : Meaning) (a : ℕ) (T : Table) : Type 0 where
 abbrev pub StepChanges : Table → Table → ℕ → ℕ → Type 0
 StepChanges T T′ b s = T .last b s ≡ T′ .last b s → ⊥
 
--- The table is right: it has just the reached arrivals, with their times, and each shown path is a path of its arrival's time.
+-- The table is right: it has just the reached arrivals, with their times and a last step each, and each shown path is a path of its arrival's time.
 pub record Right (G : Links) (m : Meaning) (a : ℕ) (T : Table) : Type 0 where
   pub reached : (b s : ℕ) → 0 < T .rank b s → ArrivalTime G m a b s (T .rank b s - 1)
   pub only : (b s : ℕ) → Reached G m a b s → 0 < T .rank b s
+  pub lasts : (b s : ℕ) → 0 < T .rank b s → (step : Step) × (T .last b s ≡ Some step) × LastStep G m a b s (step .link)
   pub shows : (b s : ℕ) (ts : List Triple) → Shown G m a T b s ts → Arrives G m a b s ts × (pathTime G ts + 1 ≡ T .rank b s)
 
 -- The shown path of a pair is that of the lowest accepting state with the pair's time.
