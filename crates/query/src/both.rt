@@ -1,7 +1,10 @@
 // Two queries as one, which goes over a word in both at once and so accepts the words that both accept.
 ghost use mathlib.Core.Path.{_≡_};
+ghost use Rattle.std.specs.Orderings.{Decides};
+ghost use Rattle.query.specs.Words.{Accepts};
 ghost use Rattle.query.specs.Both.{firstOf, secondOf, isState, bothMeaning, bothLawful, meaningOf, AcceptsBoth};
 use crate::Query;
+use crate::accept;
 
 /// A query has at most 32 states.
 const MOST_STATES: u32 = 32;
@@ -12,18 +15,17 @@ const TOO_MANY: u32 = MOST_STATES + 1;
 /// A query of two: each of its states stands for a state of the first and a state of the second.
 #[derive(Drop)]
 pub struct Both<A, B> {
-    first: A,
-    second: B,
+    pub first: A,
+    pub second: B,
 }
 
 impl<A: Query, B: Query> Both<A, B> {
-    /// The query that accepts the words that both accept; or nothing, where the two sizes have a product above 32.
-    pub fn new(first: A, second: B) -> Self
-        ensures held { λ r. ⌜ (r .first ≡ first) × (r .second ≡ second) ⌝ }
-        ensures product { λ r. ⌜ meaningOf (A·Query .meaning) (B·Query .meaning) r ≡ bothMeaning (A·Query .meaning first) (B·Query .meaning second) ⌝ }
-        ensures accepts { λ r. ⌜ AcceptsBoth (A·Query .meaning first) (B·Query .meaning second) (meaningOf (A·Query .meaning) (B·Query .meaning) r) ⌝ }
+    /// Whether this query of two accepts the word: exactly where both accept it; or never, where the two sizes have a product above 32.
+    pub fn accepts(&self, word: &[u32]) -> bool
+        ensures answer { λ r. ⌜ Decides r (Accepts (meaningOf (A·Query .meaning) (B·Query .meaning) (now (self .entry))) (now (word .entry))) ⌝ }
+        ensures law { λ _. ⌜ AcceptsBoth (A·Query .meaning (now (self .entry) .first)) (B·Query .meaning (now (self .entry) .second)) (meaningOf (A·Query .meaning) (B·Query .meaning) (now (self .entry))) ⌝ }
     {
-        Both { first, second }
+        accept::accepts(self, word)
     }
 
     // Whether the number is a state. Where there would be too many states, none is.
