@@ -35,22 +35,28 @@ fragment-kept F G L M lo hi p P agree f = record { own = f .own; stays = stays; 
   where
     R : ℕ → Type 0
     R s = (lo < s) × (s ≤ hi)
+
     stays : (s t : ℕ) → lo < s → s ≤ hi → G s t ≡ true → (lo < t) × (t ≤ hi)
     stays s t a b e = f .stays s t a b (sym (agree .moves s t a b) ∙ e)
+
     back : (s u : ℕ) → (lo < s) × (s ≤ hi) → G s u ≡ true → (F s u ≡ true) × (L u ≡ M u) × ((lo < u) × (u ≤ hi))
     back s u r e = let q = stays s u (r .0) (r .1) e in (sym (agree .moves s u (r .0) (r .1)) ∙ e, sym (agree .labels u (q .0) (q .1)), q)
+
     forth : (s u : ℕ) → (lo < s) × (s ≤ hi) → F s u ≡ true → (G s u ≡ true) × (M u ≡ L u) × ((lo < u) × (u ≤ hi))
     forth s u r e = let q = f .stays s u (r .0) (r .1) e in (agree .moves s u (r .0) (r .1) ∙ e, agree .labels u (q .0) (q .1), q)
+
     says : (w : List ℕ) → Through G M p w → P w
     says [] e = f .says [] e
     says (l ∷ w) x =
         let r = f .own .first (x .0) (x .2) in
         f .says (l ∷ w) (x .0, x .1, x .2, sym (agree .labels (x .0) (r .0) (r .1)) ∙ x .3, walk-map G F M L (λ s. (lo < s) × (s ≤ hi)) back w (x .0) (x .1) r (x .4) .0, x .5)
+
     takes′ : (w : List ℕ) → Through F L p w → Through G M p w
     takes′ [] e = e
     takes′ (l ∷ w) x =
         let r = f .own .first (x .0) (x .2) in
         (x .0, x .1, x .2, agree .labels (x .0) (r .0) (r .1) ∙ x .3, walk-map F G L M (λ s. (lo < s) × (s ≤ hi)) forth w (x .0) (x .1) r (x .4) .0, x .5)
+
     takes : (w : List ℕ) → P w → Through G M p w
     takes w q = takes′ w (f .takes w q)
 
@@ -70,6 +76,7 @@ fragment-maybe {F} {L} {lo} {hi} {p} {P} f = record { own = record { first = f .
     says : (w : List ℕ) → Through F L (optional p) w → (w ≡ []) ⊎ P w
     says [] e = inl refl
     says (l ∷ w) x = inr (f .says (l ∷ w) x)
+
     takes : (w : List ℕ) → (w ≡ []) ⊎ P w → Through F L (optional p) w
     takes w x = ⊎-elim (λ e. subst (Through F L (optional p)) (sym e) refl) (λ q. through-optional F L p w (f .takes w q)) x
 
@@ -96,10 +103,12 @@ fragment-either {F} {L} {lo} {mid} {hi} {a} {b} {p} {P} {Q} low high f g e = rec
       first = λ t m. ⊎-elim (λ x. let r = f .own .first t x in (r .0, omega (arith, r .1))) (λ x. let r = g .own .first t x in (omega (arith, r .0), r .1)) (or-cases _ _ (sym (e .first t) ∙ m));
       last = λ t m. ⊎-elim (λ x. let r = f .own .last t x in (r .0, omega (arith, r .1))) (λ x. let r = g .own .last t x in (omega (arith, r .0), r .1)) (or-cases _ _ (sym (e .last t) ∙ m));
     }
+
     stays : (s t : ℕ) → lo < s → s ≤ hi → F s t ≡ true → (lo < t) × (t ≤ hi)
     stays s t x y m =
         ⊎-elim (λ (h : mid < s). let r = g .stays s t h y m in (omega (arith, r .0), r .1))
         (λ (h : s ≤ mid). let r = f .stays s t x h m in (r .0, omega (arith, r .1))) (cases-lt mid s)
+
     says : (w : List ℕ) → Through F L p w → P w ⊎ Q w
     says [] n = ⊎-elim (λ x. inl (f .says [] x)) (λ x. inr (g .says [] x)) (or-cases _ _ (sym (e .nullable) ∙ n))
     says (l ∷ w) x = ⊎-elim from-a from-b (or-cases _ _ (sym (e .first (x .0)) ∙ x .2))
@@ -110,18 +119,22 @@ fragment-either {F} {L} {lo} {mid} {hi} {a} {b} {p} {P} {Q} low high f g e = rec
             let end = walk-stays f w (x .0) (x .1) (r .0) (r .1) (x .4) in
             ⊎-elim (λ n. inl (f .says (l ∷ w) (x .0, x .1, m, x .3, x .4, n)))
             (λ n. absurd (let q = g .own .last (x .1) n in omega (arith, q .0, end .1))) (or-cases _ _ (sym (e .last (x .1)) ∙ x .5))
+
         from-b : member (b .first) (x .0) ≡ true → P (l ∷ w) ⊎ Q (l ∷ w)
         from-b m =
             let r = g .own .first (x .0) m in
             let end = walk-stays g w (x .0) (x .1) (r .0) (r .1) (x .4) in
             ⊎-elim (λ n. absurd (let q = f .own .last (x .1) n in omega (arith, q .1, end .0)))
             (λ n. inr (g .says (l ∷ w) (x .0, x .1, m, x .3, x .4, n))) (or-cases _ _ (sym (e .last (x .1)) ∙ x .5))
+
     left : (w : List ℕ) → Through F L a w → Through F L p w
     left [] n = e .nullable ∙ or-left _ _ n
     left (l ∷ w) x = (x .0, x .1, e .first (x .0) ∙ or-left _ _ (x .2), x .3, x .4, e .last (x .1) ∙ or-left _ _ (x .5))
+
     right : (w : List ℕ) → Through F L b w → Through F L p w
     right [] n = e .nullable ∙ or-right _ _ n
     right (l ∷ w) x = (x .0, x .1, e .first (x .0) ∙ or-right _ _ (x .2), x .3, x .4, e .last (x .1) ∙ or-right _ _ (x .5))
+
     takes : (w : List ℕ) → P w ⊎ Q w → Through F L p w
     takes w x = ⊎-elim (λ q. left w (f .takes w q)) (λ q. right w (g .takes w q)) x
 
@@ -177,13 +190,13 @@ module _ {F G : ℕ → ℕ → Bool} {L : ℕ → ℕ} {lo mid hi : ℕ} {a b p
   first-walk (l ∷ w) s t x y walk =
       ⊎-elim
       (λ m.
-          let r = f .stays s (walk .0) x y m in
-          ⊎-elim (λ q. inl (walk .0, m, walk .2, q))
-          (λ c. inr (record { u = l ∷ c .u; v = c .v; l = c .l; x = c .x; y = c .y; whole = ap (λ us. l ∷ us) (c .whole); front = (walk .0, m, walk .2, c .front); leaves = c .leaves; enters = c .enters; label = c .label; back = c .back; ends = c .ends }))
-          (first-walk w (walk .0) t (r .0) (r .1) (walk .3)))
+      let r = f .stays s (walk .0) x y m in
+      ⊎-elim (λ q. inl (walk .0, m, walk .2, q))
+      (λ c. inr (record { u = l ∷ c .u; v = c .v; l = c .l; x = c .x; y = c .y; whole = ap (λ us. l ∷ us) (c .whole); front = (walk .0, m, walk .2, c .front); leaves = c .leaves; enters = c .enters; label = c .label; back = c .back; ends = c .ends }))
+      (first-walk w (walk .0) t (r .0) (r .1) (walk .3)))
       (λ m.
-          let q = second-walk w (walk .0) t (g .own .first (walk .0) (m .1)) (walk .3) in
-          inr (record { u = []; v = w; l = l; x = s; y = walk .0; whole = refl; front = refl; leaves = m .0; enters = m .1; label = walk .2; back = q .0; ends = q .1 }))
+      let q = second-walk w (walk .0) t (g .own .first (walk .0) (m .1)) (walk .3) in
+      inr (record { u = []; v = w; l = l; x = s; y = walk .0; whole = refl; front = refl; leaves = m .0; enters = m .1; label = walk .2; back = q .0; ends = q .1 }))
       (move-cases linked s (walk .0) (walk .1))
 
   then-own : Within lo hi p
@@ -196,8 +209,8 @@ module _ {F G : ℕ → ℕ → Bool} {L : ℕ → ℕ} {lo mid hi : ℕ} {a b p
   then-stays s t x y m =
       ⊎-elim
       (λ old.
-          ⊎-elim (λ (h : mid < s). let r = g .stays s t h y old in (omega (arith, r .0), r .1))
-          (λ (h : s ≤ mid). let r = f .stays s t x h old in (r .0, omega (arith, r .1))) (cases-lt mid s))
+      ⊎-elim (λ (h : mid < s). let r = g .stays s t h y old in (omega (arith, r .0), r .1))
+      (λ (h : s ≤ mid). let r = f .stays s t x h old in (r .0, omega (arith, r .1))) (cases-lt mid s))
       (λ new. let r = g .own .first t (new .1) in (omega (arith, r .0), r .1)) (move-cases linked s t m)
 
   then-says : (w : List ℕ) → Through G L p w → Joined P Q w
@@ -206,23 +219,27 @@ module _ {F G : ℕ → ℕ → Bool} {L : ℕ → ℕ} {lo mid hi : ℕ} {a b p
     where
       last : (member (b .last) (x .1) ≡ true) ⊎ ((b .nullable && member (a .last) (x .1)) ≡ true)
       last = or-cases _ _ (sym (e .last (x .1)) ∙ x .5)
+
       from-a : member (a .first) (x .0) ≡ true → Joined P Q (l ∷ w)
       from-a m = ⊎-elim stay cross (first-walk w (x .0) (x .1) (r .0) (r .1) (x .4))
         where
           r : (lo < x .0) × (x .0 ≤ mid)
           r = f .own .first (x .0) m
+
           stay : Walk F L (x .0) w (x .1) → Joined P Q (l ∷ w)
           stay walk =
               let end = walk-stays f w (x .0) (x .1) (r .0) (r .1) walk in
               ⊎-elim (λ n. absurd (let q = g .own .last (x .1) n in omega (arith, q .0, end .1)))
               (λ n.
-                  let q = and-parts (b .nullable) _ n in
-                  (l ∷ w, [], sym (append-nil (l ∷ w)), f .says (l ∷ w) (x .0, x .1, m, x .3, walk, q .1), g .says [] (q .0))) last
+              let q = and-parts (b .nullable) _ n in
+              (l ∷ w, [], sym (append-nil (l ∷ w)), f .says (l ∷ w) (x .0, x .1, m, x .3, walk, q .1), g .says [] (q .0))) last
+
           cross : Crosses (x .0) w (x .1) → Joined P Q (l ∷ w)
           cross c =
               ⊎-elim
               (λ n. (l ∷ c .u, c .l ∷ c .v, ap (λ us. l ∷ us) (c .whole), f .says (l ∷ c .u) (x .0, c .x, m, x .3, c .front, c .leaves), g .says (c .l ∷ c .v) (c .y, x .1, c .enters, c .label, c .back, n)))
               (λ n. absurd (let q = f .own .last (x .1) (and-parts (b .nullable) _ n .1) in omega (arith, q .1, c .ends .0))) last
+
       from-b : (a .nullable && member (b .first) (x .0)) ≡ true → Joined P Q (l ∷ w)
       from-b m =
           let n = and-parts (a .nullable) _ m in
@@ -237,10 +254,14 @@ module _ {F G : ℕ → ℕ → Bool} {L : ℕ → ℕ} {lo mid hi : ℕ} {a b p
   then-joined (l ∷ u) [] x n =
       subst (Through G L p) (sym (append-nil (l ∷ u)))
       (x .0, x .1, e .first (x .0) ∙ or-left _ _ (x .2), x .3, walk-old linked L u (x .0) (x .1) (x .4), e .last (x .1) ∙ or-right (member (b .last) (x .1)) _ (and-from _ _ n (x .5)))
-  then-joined (l ∷ u) (m ∷ v) x y =
-      (x .0, y .1, e .first (x .0) ∙ or-left _ _ (x .2), x .3,
-       walk-across linked L u v m (x .0) (x .1) (y .0) (y .1) (walk-old linked L u (x .0) (x .1) (x .4)) (x .5) (y .2) (y .3) (walk-old linked L v (y .0) (y .1) (y .4)),
-       e .last (y .1) ∙ or-left _ _ (y .5))
+  then-joined (l ∷ u) (m ∷ v) x y = (
+    x .0,
+    y .1,
+    e .first (x .0) ∙ or-left _ _ (x .2),
+    x .3,
+    walk-across linked L u v m (x .0) (x .1) (y .0) (y .1) (walk-old linked L u (x .0) (x .1) (x .4)) (x .5) (y .2) (y .3) (walk-old linked L v (y .0) (y .1) (y .4)),
+    e .last (y .1) ∙ or-left _ _ (y .5),
+  )
 
   pub fragment-then : Fragment G L lo hi p (Joined P Q)
   fragment-then = record {
@@ -258,9 +279,15 @@ module _ {F G : ℕ → ℕ → Bool} {L : ℕ → ℕ} {lo hi : ℕ} {a : Part}
   rounds (l ∷ w) s t walk end =
       let r = rounds w (walk .0) t (walk .3) end in
       ⊎-elim (λ old. (l ∷ r .0, r .1, r .2, ap (λ us. l ∷ us) (r .3), (walk .0, old, walk .2, r .4), r .5, r .6))
-      (λ new.
-          ([], l ∷ w, s, refl, refl, new .0,
-           subst (Many P) (ap (λ us. l ∷ us) (sym (r .3))) (more (l ∷ r .0) (r .1) (f .says (l ∷ r .0) (walk .0, r .2, new .1, walk .2, r .4, r .5)) (r .6))))
+      (λ new. (
+        [],
+        l ∷ w,
+        s,
+        refl,
+        refl,
+        new .0,
+        subst (Many P) (ap (λ us. l ∷ us) (sym (r .3))) (more (l ∷ r .0) (r .1) (f .says (l ∷ r .0) (walk .0, r .2, new .1, walk .2, r .4, r .5)) (r .6)),
+      ))
       (move-cases linked s (walk .0) (walk .1))
 
   again-stays : (s t : ℕ) → lo < s → s ≤ hi → G s t ≡ true → (lo < t) × (t ≤ hi)

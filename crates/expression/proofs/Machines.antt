@@ -47,9 +47,9 @@ linked-in old new from to k lt there sofar = (
   λ s.
       ⊎-elim
       (λ e.
-          subst (λ (n : ℕ). getD (set new k (bitOr (getD new k 0) to)) n 0 ≡ cond (ltb n (k + 1) && member from n) (bitOr (getD old n 0) to) (getD old n 0)) (sym e)
-          (getD-set-same new k _ 0 (omega (arith, sofar .0)) ∙ ap (λ (x : ℕ). bitOr x to) (sofar .1 k ∙ cond-false _ _ _ (ap (λ (b : Bool). b && member from k) (le-ltb k k (omega arith))))
-          ∙ sym (cond-true _ _ _ (ap (λ (b : Bool). b && member from k) (lt-ltb k (k + 1) (omega arith)) ∙ there))))
+      subst (λ (n : ℕ). getD (set new k (bitOr (getD new k 0) to)) n 0 ≡ cond (ltb n (k + 1) && member from n) (bitOr (getD old n 0) to) (getD old n 0)) (sym e)
+      (getD-set-same new k _ 0 (omega (arith, sofar .0)) ∙ ap (λ (x : ℕ). bitOr x to) (sofar .1 k ∙ cond-false _ _ _ (ap (λ (b : Bool). b && member from k) (le-ltb k k (omega arith))))
+      ∙ sym (cond-true _ _ _ (ap (λ (b : Bool). b && member from k) (lt-ltb k (k + 1) (omega arith)) ∙ there))))
       (λ ne. linked-other old new _ from to k s (getD-set-other new k s _ 0 ne) (test-other k s (member from s) ne) (sofar .1 s))
       (cases-eq s k),
 )
@@ -67,6 +67,7 @@ linked-out old new from to k there sofar = (
     never : (a : Bool) → (a && false) ≡ false
     never true = refl
     never false = refl
+
     same : {s : ℕ} → s ≡ k → (ltb s (k + 1) && member from s) ≡ (ltb s k && member from s)
     same {s} e =
         let out : member from s ≡ false = subst (λ (n : ℕ). member from n ≡ false) (sym e) there in
@@ -78,14 +79,17 @@ linked-all old new from to k small done sofar s t = ⊎-elim inside outside (cas
     or-false : (a : Bool) → (a || false) ≡ a
     or-false true = refl
     or-false false = refl
+
     inside : member from s ≡ true → member (getD new s 0) t ≡ (member (getD old s 0) t || (member from s && member to t))
     inside e =
         let below : s < 32 = ⊎-elim (λ h. h) (λ h. absurd (both-ways _ (member-above from s small h) e)) (cases-lt s 32) in
         ap (λ (x : ℕ). member x t) (sofar .1 s ∙ cond-true _ _ _ (ap (λ (b : Bool). b && member from s) (lt-ltb s k (omega arith)) ∙ e))
         ∙ member-or (getD old s 0) to t ∙ ap (λ (b : Bool). member (getD old s 0) t || (b && member to t)) (sym e)
+
     never : (a : Bool) → (a && false) ≡ false
     never true = refl
     never false = refl
+
     outside : member from s ≡ false → member (getD new s 0) t ≡ (member (getD old s 0) t || (member from s && member to t))
     outside e =
         ap (λ (x : ℕ). member x t) (sofar .1 s ∙ cond-false _ _ _ (ap (λ (b : Bool). ltb s k && b) e ∙ never (ltb s k)))

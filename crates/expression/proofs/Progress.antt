@@ -49,7 +49,7 @@ labels-next r r′ y peek n silent letters labels =
     (λ i. take (letters i + 1) (labels i) ++ lettersOf (left r′))
     ∙ ap (λ ws. take (r .machine .letters + 1) (r .machine .labels) ++ lettersOf ws) (sym (left-next r r′ n))
     ∙ ap (λ ws. take (r .machine .letters + 1) (r .machine .labels) ++ ws)
-      (sym (ap lettersOf (peek .1) ∙ letters-on (peek .0) _ y (peek .2) ∙ ap (λ ws. ws ++ lettersOf (drop (r .place + 1) (r .words .now))) silent))
+    (sym (ap lettersOf (peek .1) ∙ letters-on (peek .0) _ y (peek .2) ∙ ap (λ ws. ws ++ lettersOf (drop (r .place + 1) (r .words .now))) silent))
 
 pub went-next : (r r′ : Reader) (y : Symbol) (b b′ : Bool) → Peeked r (Ok (Some y)) → Next r r′ → objection (scanAt r b) y ≡ None → scanAt r′ b′ ≡ onward (scanAt r b) y → spoken (Some y) ≡ [] → r′ .machine .letters ≡ r .machine .letters → r′ .machine .labels ≡ r .machine .labels → Went b r b′ r′
 went-next r r′ y b b′ peek n good scan silent letters labels = record {

@@ -96,11 +96,12 @@ read-letter r m l own k peek room next letters labels follow is = record {
   fragment =
       subst (λ n. Fragment (linked m) (labelOf m) (r .machine .letters) n (record { nullable = false; first = own; last = own }) (λ w. w ≡ l ∷ [])) (sym letters)
       (fragment-letter (linked m) (labelOf m) (r .machine .letters) k l (record { nullable = false; first = own; last = own }) next refl (alone own k is) (alone own k is) there there
-       (ap (λ xs. getD xs k 0) labels ∙ getD-set-same (r .machine .labels) k l 0 (omega (arith, r .machine .names))) still);
+      (ap (λ xs. getD xs k 0) labels ∙ getD-set-same (r .machine .labels) k l 0 (omega (arith, r .machine .names))) still);
 }
   where
     there : member own k ≡ true
     there = is k ∙ or-right (member 0 k) _ (and-from _ _ (lt-ltb k 32 (omega arith)) (eq-eqb k k refl))
+
     still : (t : ℕ) → linked m k t ≡ false
     still t =
         ⊎-elim (λ e. absurd (let q = r .machine .from k t (ap (λ xs. member (getD xs k 0) t) (sym follow) ∙ e) in omega arith)) (λ e. e) (cases-bool (linked m k t))
@@ -215,8 +216,8 @@ read-sequence r r1 r2 m p q x front begins back links joined = record {
   fragment =
       subst (λ n. Fragment (linked m) (labelOf m) (r .machine .letters) n x (Language (then (front .tree) (back .tree)))) (sym (links .letters))
       (relabel (r2 .machine) m (linked m) (r .machine .letters) (r2 .machine .letters) x _ (links .labels)
-       (fragment-then (front .went .letters) (back .went .letters)
-        (spells-kept (r1 .machine) (r2 .machine) (r .machine .letters) p (front .tree) (back .kept) (front .fragment)) (back .fragment) (record { moves = links .follow }) joined));
+      (fragment-then (front .went .letters) (back .went .letters)
+      (spells-kept (r1 .machine) (r2 .machine) (r .machine .letters) p (front .tree) (back .kept) (front .fragment)) (back .fragment) (record { moves = links .follow }) joined));
 }
 
 -- A sequence, a bar and an expression.
@@ -272,7 +273,7 @@ repeated-next r r2 m y T p p′ q one rest = record {
         fragment = λ lo f.
             g .fragment lo
             (subst (λ n. Fragment (linked m) (labelOf m) lo n p′ (Language (T s))) (sym (one .letters))
-             (relabel (r .machine) m (linked m) lo (r .machine .letters) p′ (Language (T s)) (one .labels) (one .grow s lo f)));
+            (relabel (r .machine) m (linked m) lo (r .machine .letters) p′ (Language (T s)) (one .labels) (one .grow s lo f)));
       };
 }
 

@@ -72,13 +72,15 @@ group-end : (p : ℕ) (s : Scan) (ws : List ℕ) (v : ℕ) (rest : List ℕ) (d 
 group-end p s ws v rest d c o =
     ⊎-elim
     (λ x.
-        inl
-        (x .0, record {
-          place = x .1 .place + 1;
-          goes =
-              x .1 .goes ∙ verdict-on (x .1 .place) (scan (d + 1) (x .0) false) v rest Close c (cond-false _ _ _ (ne-eqb (d + 1) 0 (λ z. omega arith)))
-              ∙ ap (λ n. verdict (x .1 .place + 1) (scan n (x .0) false) rest) up;
-        }))
+    inl (
+      x .0,
+      record {
+        place = x .1 .place + 1;
+        goes =
+            x .1 .goes ∙ verdict-on (x .1 .place) (scan (d + 1) (x .0) false) v rest Close c (cond-false _ _ _ (ne-eqb (d + 1) 0 (λ z. omega arith)))
+            ∙ ap (λ n. verdict (x .1 .place + 1) (scan n (x .0) false) rest) up;
+      },
+    ))
     inr o
   where
     up : d + 1 - 1 ≡ d
@@ -106,8 +108,8 @@ mutual
   atom-out (group-atom {w} {v} {ws} {rest} e x c) p d k b =
       ⊎-elim
       (λ room.
-          outcome-on p (p + 1) (scan d k b) (scan (d + 1) k true) (w ∷ ws) ws d rest (verdict-on p (scan d k b) w ws Open e (cond-true _ _ _ (lt-ltb d 16 room)))
-          (group-end (p + 1) (scan (d + 1) k true) ws v rest d c (expression-out x (p + 1) (d + 1) k true)))
+      outcome-on p (p + 1) (scan d k b) (scan (d + 1) k true) (w ∷ ws) ws d rest (verdict-on p (scan d k b) w ws Open e (cond-true _ _ _ (lt-ltb d 16 room)))
+      (group-end (p + 1) (scan (d + 1) k true) ws v rest d c (expression-out x (p + 1) (d + 1) k true)))
       (λ full. stopped p (scan d k b) w ws Open TooDeep d rest e (cond-false _ _ _ (le-ltb d 16 full)) refl) (cases-lt d 16)
 
 -- Words that have a tree are refused only at a limit.

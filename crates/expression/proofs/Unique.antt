@@ -196,10 +196,10 @@ repeats-go : (w : ℕ) (ws r1 : List ℕ) (s t1 : Tree) (y : Symbol) → symbolO
 repeats-go w ws r1 s t1 y e again rest r2 t2 d ends =
     ⊎-elim (λ x. absurd (no-repeat w ws r2 y (x .0) e again ends))
     (λ g.
-        let z : g .y ≡ y = same-symbol (g .w) w (g .y) y (sym (heads w (g .w) ws (g .us) (g .words))) (g .symbol) e in
-        rest r2 t2
-        (subst (λ us. Repeats us r2 (repeat-tree y s) t2) (sym (tails w (g .w) ws (g .us) (g .words))) (subst (λ x. Repeats (g .us) r2 (repeat-tree x s) t2) z (g .others)))
-        ends)
+    let z : g .y ≡ y = same-symbol (g .w) w (g .y) y (sym (heads w (g .w) ws (g .us) (g .words))) (g .symbol) e in
+    rest r2 t2
+    (subst (λ us. Repeats us r2 (repeat-tree y s) t2) (sym (tails w (g .w) ws (g .us) (g .words))) (subst (λ x. Repeats (g .us) r2 (repeat-tree x s) t2) z (g .others)))
+    ends)
     (repeats-view d)
 
 repeats-same : {ws r1 : List ℕ} {s t1 : Tree} → Repeats ws r1 s t1 → Ends afterPiece r1 → (r2 : List ℕ) (t2 : Tree) → Repeats ws r2 s t2 → Ends afterPiece r2 → Same r1 r2 t1 t2
@@ -214,38 +214,38 @@ mutual
   expression-same {ws} {r1} {t1} (last-sequence a) e1 r2 t2 d e2 =
       ⊎-elim (λ b. sequence-same a (wider (ahead r1) e1) r2 t2 b (wider (ahead r2) e2))
       (λ b.
-          let q = sequence-same a (wider (ahead r1) e1) (b .w ∷ b .more) (b .a) (b .front) (at-symbol afterSequence (b .w) (b .more) Bar (b .symbol) refl) in
-          absurd (false≢true (sym (ap (passes afterExpression) (b .symbol)) ∙ subst (Ends afterExpression) (q .0) e1)))
+      let q = sequence-same a (wider (ahead r1) e1) (b .w ∷ b .more) (b .a) (b .front) (at-symbol afterSequence (b .w) (b .more) Bar (b .symbol) refl) in
+      absurd (false≢true (sym (ap (passes afterExpression) (b .symbol)) ∙ subst (Ends afterExpression) (q .0) e1)))
       (expression-view d)
   expression-same {ws} {r1} (bar-next {w} {more = more} {s = s} a e x) e1 r2 t2 d e2 =
       ⊎-elim
       (λ b.
-          let q = sequence-same a (at-symbol afterSequence w more Bar e refl) r2 t2 b (wider (ahead r2) e2) in
-          absurd (false≢true (sym (ap (passes afterExpression) e) ∙ subst (Ends afterExpression) (sym (q .0)) e2)))
+      let q = sequence-same a (at-symbol afterSequence w more Bar e refl) r2 t2 b (wider (ahead r2) e2) in
+      absurd (false≢true (sym (ap (passes afterExpression) e) ∙ subst (Ends afterExpression) (sym (q .0)) e2)))
       (λ b.
-          let q = sequence-same a (at-symbol afterSequence w more Bar e refl) (b .w ∷ b .more) (b .a) (b .front) (at-symbol afterSequence (b .w) (b .more) Bar (b .symbol) refl) in
-          let z = expression-same x e1 r2 (b .b) (subst (λ us. Expression us r2 (b .b)) (sym (tails w (b .w) more (b .more) (q .0))) (b .back)) e2 in
-          (z .0, (λ i. either (q .1 i) (z .1 i)) ∙ sym (b .tree)))
+      let q = sequence-same a (at-symbol afterSequence w more Bar e refl) (b .w ∷ b .more) (b .a) (b .front) (at-symbol afterSequence (b .w) (b .more) Bar (b .symbol) refl) in
+      let z = expression-same x e1 r2 (b .b) (subst (λ us. Expression us r2 (b .b)) (sym (tails w (b .w) more (b .more) (q .0))) (b .back)) e2 in
+      (z .0, (λ i. either (q .1 i) (z .1 i)) ∙ sym (b .tree)))
       (expression-view d)
 
   sequence-same : {ws r1 : List ℕ} {t1 : Tree} → Sequence ws r1 t1 → Ends afterSequence r1 → (r2 : List ℕ) (t2 : Tree) → Sequence ws r2 t2 → Ends afterSequence r2 → Same r1 r2 t1 t2
   sequence-same {ws} {r1} (last-piece a) e1 r2 t2 d e2 =
       ⊎-elim (λ b. piece-same a (widest (ahead r1) e1) r2 t2 b (widest (ahead r2) e2))
       (λ b.
-          let start = sequence-begins (b .back) in
-          let q = piece-same a (widest (ahead r1) e1) (b .more) (b .a) (b .front) (begins-passes (ahead (b .more)) start) in
-          absurd (not-both (ahead (b .more)) start (subst (Ends afterSequence) (q .0) e1)))
+      let start = sequence-begins (b .back) in
+      let q = piece-same a (widest (ahead r1) e1) (b .more) (b .a) (b .front) (begins-passes (ahead (b .more)) start) in
+      absurd (not-both (ahead (b .more)) start (subst (Ends afterSequence) (q .0) e1)))
       (sequence-view d)
   sequence-same {ws} {r1} (piece-next {more = more} a x) e1 r2 t2 d e2 =
       ⊎-elim
       (λ b.
-          let start = sequence-begins x in
-          let q = piece-same a (begins-passes (ahead more) start) r2 t2 b (widest (ahead r2) e2) in
-          absurd (not-both (ahead more) start (subst (Ends afterSequence) (sym (q .0)) e2)))
+      let start = sequence-begins x in
+      let q = piece-same a (begins-passes (ahead more) start) r2 t2 b (widest (ahead r2) e2) in
+      absurd (not-both (ahead more) start (subst (Ends afterSequence) (sym (q .0)) e2)))
       (λ b.
-          let q = piece-same a (begins-passes (ahead more) (sequence-begins x)) (b .more) (b .a) (b .front) (begins-passes (ahead (b .more)) (sequence-begins (b .back))) in
-          let z = sequence-same x e1 r2 (b .b) (subst (λ us. Sequence us r2 (b .b)) (sym (q .0)) (b .back)) e2 in
-          (z .0, (λ i. then (q .1 i) (z .1 i)) ∙ sym (b .tree)))
+      let q = piece-same a (begins-passes (ahead more) (sequence-begins x)) (b .more) (b .a) (b .front) (begins-passes (ahead (b .more)) (sequence-begins (b .back))) in
+      let z = sequence-same x e1 r2 (b .b) (subst (λ us. Sequence us r2 (b .b)) (sym (q .0)) (b .back)) e2 in
+      (z .0, (λ i. then (q .1 i) (z .1 i)) ∙ sym (b .tree)))
       (sequence-view d)
 
   piece-same : {ws r1 : List ℕ} {t1 : Tree} → Piece ws r1 t1 → Ends afterPiece r1 → (r2 : List ℕ) (t2 : Tree) → Piece ws r2 t2 → Ends afterPiece r2 → Same r1 r2 t1 t2
@@ -258,18 +258,18 @@ mutual
   atom-same (letter-atom {w} {l} {rest} e) r2 t2 d =
       ⊎-elim
       (λ b.
-          let same = same-symbol w (b .w) (Letter l) (Letter (b .l)) (heads w (b .w) rest r2 (b .words)) e (b .symbol) in
-          (tails w (b .w) rest r2 (b .words), (let h : l ≡ b .l = cc in ap letter h) ∙ sym (b .tree)))
+      let same = same-symbol w (b .w) (Letter l) (Letter (b .l)) (heads w (b .w) rest r2 (b .words)) e (b .symbol) in
+      (tails w (b .w) rest r2 (b .words), (let h : l ≡ b .l = cc in ap letter h) ∙ sym (b .tree)))
       (λ b. absurd (no-letter-open l (same-symbol w (b .w) (Letter l) Open (heads w (b .w) rest (b .us) (b .words)) e (b .symbol))))
       (atom-view d)
   atom-same (group-atom {w} {v} {ws} {rest} e x c) r2 t2 d =
       ⊎-elim
       (λ b. absurd (no-letter-open (b .l) (same-symbol (b .w) w (Letter (b .l)) Open (sym (heads w (b .w) ws r2 (b .words))) (b .symbol) e)))
       (λ b.
-          let q =
-                  expression-same x (at-symbol afterExpression v rest Close c refl) (b .v ∷ r2) t2
-                  (subst (λ us. Expression us (b .v ∷ r2) t2) (sym (tails w (b .w) ws (b .us) (b .words))) (b .inner)) (at-symbol afterExpression (b .v) r2 Close (b .close) refl) in
-          (tails v (b .v) rest r2 (q .0), q .1))
+      let q =
+      expression-same x (at-symbol afterExpression v rest Close c refl) (b .v ∷ r2) t2
+      (subst (λ us. Expression us (b .v ∷ r2) t2) (sym (tails w (b .w) ws (b .us) (b .words))) (b .inner)) (at-symbol afterExpression (b .v) r2 Close (b .close) refl) in
+      (tails v (b .v) rest r2 (q .0), q .1))
       (atom-view d)
 
 -- A list of words has at most one tree.

@@ -59,6 +59,7 @@ module _ (ws : List ℕ) (r : Reader) (fresh : Fresh ws r) where
       where
         none : left r′ ≡ [] → ahead r′ false ≡ Some f
         none e = absurd (omega (arith, ap length e, length-drop (r′ .place) (r′ .words .now), ap length (read .went .words), ap length (fresh .words)))
+
         at-close : (w : ℕ) (us : List ℕ) (y : Symbol) → left r′ ≡ w ∷ us → symbolOf w ≡ Some y → afterExpression y ≡ true → ahead r′ false ≡ Some f
         at-close w us Close is sym-is ok =
             ap (verdict (r′ .place) (scanAt r′ false)) is
@@ -70,6 +71,7 @@ module _ (ws : List ℕ) (r : Reader) (fresh : Fresh ws r) where
         at-close w us Star is sym-is ok = absurd (false≢true ok)
         at-close w us Plus is sym-is ok = absurd (false≢true ok)
         at-close w us Maybe is sym-is ok = absurd (false≢true ok)
+
         close : ((w : ℕ) × (us : List ℕ) × (y : Symbol) × (left r′ ≡ w ∷ us) × (symbolOf w ≡ Some y) × (afterExpression y ≡ true)) → ahead r′ false ≡ Some f
         close x = at-close (x .0) (x .1) (x .2) (x .3) (x .4) (x .5)
 

@@ -63,7 +63,7 @@ tree-group : HasTree (openWord ∷ letterWord 1 ∷ letterWord 2 ∷ closeWord �
 tree-group =
     last-sequence
     (last-piece
-     (piece (group-atom word-open (last-sequence (piece-next (one-letter 1 _ word-one) (last-piece (one-letter 2 _ word-two)))) word-close) (plus-next word-plus done)))
+    (piece (group-atom word-open (last-sequence (piece-next (one-letter 1 _ word-one) (last-piece (one-letter 2 _ word-two)))) word-close) (plus-next word-plus done)))
 
 tree-bar : HasTree (letterWord 1 ∷ barWord ∷ letterWord 2 ∷ letterWord 3 ∷ []) (either (letter 1) (then (letter 2) (letter 3)))
 tree-bar =
@@ -98,8 +98,10 @@ worked = record {
   star-empty = (star (letter 1), tree-star, none);
   plus-last = (then (letter 1) (plus (letter 2)), tree-plus, (1 ∷ [], 2 ∷ 2 ∷ [], refl, refl, (2 ∷ [], 2 ∷ [], refl, refl, more (2 ∷ []) [] refl none)));
   plus-not-both = lacks _ (then (letter 1) (plus (letter 2))) (1 ∷ 2 ∷ 1 ∷ 2 ∷ []) tree-plus not-both;
-  group-plus =
-      (plus (then (letter 1) (letter 2)), tree-group,
-       (1 ∷ 2 ∷ [], 1 ∷ 2 ∷ [], refl, (1 ∷ [], 2 ∷ [], refl, refl, refl), more (1 ∷ 2 ∷ []) [] (1 ∷ [], 2 ∷ [], refl, refl, refl) none));
+  group-plus = (
+    plus (then (letter 1) (letter 2)),
+    tree-group,
+    (1 ∷ 2 ∷ [], 1 ∷ 2 ∷ [], refl, (1 ∷ [], 2 ∷ [], refl, refl, refl), more (1 ∷ 2 ∷ []) [] (1 ∷ [], 2 ∷ [], refl, refl, refl) none),
+  );
   bar-parts = lacks _ (either (letter 1) (then (letter 2) (letter 3))) (1 ∷ 3 ∷ []) tree-bar not-parted;
 }

@@ -2,7 +2,6 @@
 pub mod fault;
 pub mod language;
 pub mod machine;
-pub mod symbol;
-
 mod part;
 mod reader;
+pub mod symbol;

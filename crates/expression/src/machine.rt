@@ -1,10 +1,8 @@
 // The machine of an expression: the position automaton. State t stands for the t-th letter from the left, and state 0 for the start,
 // so every move into a state bears the label of that state's letter.
 pub mod ask;
-
-pub mod read;
-
 mod build;
+pub mod read;
 
 ghost use mathlib.Core.Bool.{true};
 ghost use mathlib.Core.Path.{_≡_};

@@ -18,7 +18,11 @@ impl Part {
     pub(crate) fn accepting(self) -> u32
         ensures { λ r. ⌜ ((s : ℕ) → member r s ≡ accepted self s) ⌝ }
     {
-        if self.nullable { masks::with(self.last, 0) } else { self.last }
+        if self.nullable {
+            masks::with(self.last, 0)
+        } else {
+            self.last
+        }
     }
 
     // One part or the other.
@@ -47,7 +51,11 @@ impl Part {
     pub(crate) fn or_nothing(self) -> Part
         ensures { λ r. ⌜ r ≡ optional self ⌝ }
     {
-        Part { nullable: true, first: self.first, last: self.last }
+        Part {
+            nullable: true,
+            first: self.first,
+            last: self.last,
+        }
     }
 }
 

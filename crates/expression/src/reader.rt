@@ -15,6 +15,7 @@ use crate::symbol;
 use crate::symbol::Symbol;
 
 const MOST_LETTERS: u32 = 31;
+
 const MOST_OPEN: u32 = 16;
 
 /// A place in the words, how many opens are not closed there, and the machine of the letters so far.
@@ -41,7 +42,12 @@ pub(crate) fn machine_of(words: &[u32]) -> Result<Machine, Fault>
         // Only a close can come after an expression, and here nothing is open.
         return Err(reader.fault(Cause::NoPiece));
     }
-    let Reader { words: _, place: _, depth: _, mut machine } = reader;
+    let Reader {
+        words: _,
+        place: _,
+        depth: _,
+        mut machine,
+    } = reader;
     machine.finish(whole);
     Ok(machine)
 }
@@ -125,7 +131,11 @@ impl<'a> Reader<'a> {
         let state = self.machine.letter(label);
         self.place += 1;
         let own = masks::with(0, state);
-        Ok(Part { nullable: false, first: own, last: own })
+        Ok(Part {
+            nullable: false,
+            first: own,
+            last: own,
+        })
     }
 
     // The stars, pluses and maybes after a part.
@@ -162,7 +172,10 @@ impl<'a> Reader<'a> {
     fn fault(&self, cause: Cause) -> Fault
         ensures { λ r. ⌜ (r .cause ≡ cause) × (r .place ≡ now (self .entry) .place) ⌝ }
     {
-        Fault { cause, place: self.place }
+        Fault {
+            cause,
+            place: self.place,
+        }
     }
 }
 

@@ -15,12 +15,19 @@ pub enum Symbol {
 }
 
 const LETTER: u32 = 0x1000_0000;
+
 const LAST_LETTER: u32 = 0x1000_000F;
+
 const OPEN: u32 = 0x2000_0000;
+
 const CLOSE: u32 = 0x3000_0000;
+
 const BAR: u32 = 0x4000_0000;
+
 const STAR: u32 = 0x5000_0000;
+
 const PLUS: u32 = 0x6000_0000;
+
 const MAYBE: u32 = 0x7000_0000;
 
 /// The symbol that the word stands for, or none where it is not an expression word.

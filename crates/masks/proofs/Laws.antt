@@ -25,10 +25,13 @@ odd-max x y hx hy = ⊎-elim x0 x1 (cases x hx)
   where
     cases : (n : ℕ) → n < 2 → (n ≡ 0) ⊎ (n ≡ 1)
     cases n h = ⊎-elim inl (⊎-elim (λ l. inl (omega arith)) (λ l. inr (omega arith))) (cases-order n 0)
+
     at : (u v : ℕ) → x ≡ u → y ≡ v → eqb (max u v) 1 ≡ (eqb u 1 || eqb v 1) → eqb (max x y) 1 ≡ (eqb x 1 || eqb y 1)
     at u v p q h = rw (p, q) h
+
     x0 : x ≡ 0 → eqb (max x y) 1 ≡ (eqb x 1 || eqb y 1)
     x0 p = ⊎-elim (λ q. at 0 0 p q refl) (λ q. at 0 1 p q refl) (cases y hy)
+
     x1 : x ≡ 1 → eqb (max x y) 1 ≡ (eqb x 1 || eqb y 1)
     x1 p = ⊎-elim (λ q. at 1 0 p q refl) (λ q. at 1 1 p q refl) (cases y hy)
 
@@ -57,6 +60,7 @@ member-one k j = ⊎-elim same (⊎-elim below above) (cases-order j k)
     same e =
         ap (λ (n : ℕ). eqb (2 ^ k / 2 ^ n % 2) 1) e
         ∙ ap (λ (n : ℕ). eqb (n % 2) 1) (div-self (pow-pos k)) ∙ sym (eq-eqb j k e)
+
     below : j < k → eqb (2 ^ k / 2 ^ j % 2) 1 ≡ eqb j k
     below h =
         let m = k - j - 1 in
@@ -65,6 +69,7 @@ member-one k j = ⊎-elim same (⊎-elim below above) (cases-order j k)
         ∙ ap (λ (n : ℕ). eqb (n / 2 ^ j % 2) 1) (pow-add 2 (suc m) j)
         ∙ ap (λ (n : ℕ). eqb (n % 2) 1) (shl-shr (2 ^ suc m) j ∙ pow-suc 2 m)
         ∙ ap (λ (n : ℕ). eqb n 1) (mul-mod-left (2 ^ m) 2) ∙ sym (ne-eqb j k (λ same. omega arith))
+
     above : k < j → eqb (2 ^ k / 2 ^ j % 2) 1 ≡ eqb j k
     above h = ap (λ (n : ℕ). eqb (n % 2) 1) (div-eq-of-lt (pow-lt h)) ∙ sym (ne-eqb j k (λ e. omega arith))
 

@@ -145,8 +145,8 @@ quiet-call memory h k s′ (leaving tag p room) answer report out quiet aged =
 quiet-call memory h k s′ (advancing clock room) answer report out quiet aged =
     quiet-out h k s′ (advancing clock room) answer report (refusal memory (opened k) (advancing clock room)) out
     (λ e x.
-        let ok = none-hold (advanceRefusals k clock room) e in
-        (changed k (advancing clock room), x .2, aged-on h k clock room (ltb-false clock (k .clock) (ok .1 .1 .0)) aged))
+    let ok = none-hold (advanceRefusals k clock room) e in
+    (changed k (advancing clock room), x .2, aged-on h k clock room (ltb-false clock (k .clock) (ok .1 .1 .0)) aged))
     aged
 
 quiet-row : (memory : Memory) (h : Held) → Fresh h → {es : List Event} {s : Plain} → Row memory (opened h) es s → Quiet es → Agedly h s
@@ -217,11 +217,13 @@ module _ (h k : Held) (aged : Aged h k) where
         listed = pair .listed;
         state = pair .state;
         accepts = pair .accepts;
-        reached =
-            (pair .path, record {
-              path = record { some = pair .arrives .path .some; laid = chain-still g (pair .path) a b lt all (pair .arrives .path .laid) };
-              leads = pair .arrives .leads;
-            });
+        reached = (
+          pair .path,
+          record {
+            path = record { some = pair .arrives .path .some; laid = chain-still g (pair .path) a b lt all (pair .arrives .path .laid) };
+            leads = pair .arrives .leads;
+          },
+        );
       })
 
   falls-then : (a b g : ℕ) → PairTime (counting h) (h .query) a b g → Stands (counting k) (k .query) a b → k .clock < leaves (h .window) g

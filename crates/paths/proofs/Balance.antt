@@ -40,27 +40,31 @@ even-told a b report es s s′ told even = (stands, falls)
   where
     x : ℕ
     x = times true a b (report)
+
     y : ℕ
     y = times false a b (report)
+
     none-of : (n : ℕ) → (0 < n → ⊥) → n ≡ 0
     none-of n h = ⊎-elim (λ lt. absurd (h lt)) (λ ge. omega arith) (cases-lt 0 n)
+
     stands : Standing s′ a b → times true a b (report) + timesIn true a b es ≡ times false a b (report) + timesIn false a b es + 1
     stands st =
         let y0 = none-of (times false a b (report)) (λ h. told .withdrawn a b h .1 st) in
         ⊎-elim
         (λ pos. let new = told .announced a b pos in let one = told .announces a b (new .0) st in omega (arith, even .1 (new .0)))
         (λ zero′.
-            ⊎-elim (λ eq. omega arith) (λ ne. absurd (let out : Standing s a b → ⊥ = λ old. ne (even .0 old) in let one = told .announces a b out st in omega arith))
-            (cases-eq (timesIn true a b es) (timesIn false a b es + 1)))
+        ⊎-elim (λ eq. omega arith) (λ ne. absurd (let out : Standing s a b → ⊥ = λ old. ne (even .0 old) in let one = told .announces a b out st in omega arith))
+        (cases-eq (timesIn true a b es) (timesIn false a b es + 1)))
         (cases-lt 0 (times true a b (report)))
+
     falls : (Standing s′ a b → ⊥) → times true a b (report) + timesIn true a b es ≡ times false a b (report) + timesIn false a b es
     falls no-st =
         let x0 = none-of (times true a b (report)) (λ h. no-st (told .announced a b h .1)) in
         ⊎-elim
         (λ pos. let gone = told .withdrawn a b pos in let one = told .withdraws a b (gone .0) no-st in omega (arith, even .0 (gone .0)))
         (λ zero′.
-            ⊎-elim (λ eq. omega arith)
-            (λ ne. absurd (let out : Standing s a b → ⊥ = (λ old. let one = told .withdraws a b old no-st in omega arith) in ne (even .1 out))) (cases-eq (timesIn true a b es) (timesIn false a b es)))
+        ⊎-elim (λ eq. omega arith)
+        (λ ne. absurd (let out : Standing s a b → ⊥ = (λ old. let one = told .withdraws a b old no-st in omega arith) in ne (even .1 out))) (cases-eq (timesIn true a b es) (timesIn false a b es)))
         (cases-lt 0 (times false a b (report)))
 
 -- A watch just opened keeps no link, so nothing stands.

@@ -46,11 +46,13 @@ module _ {G : Links} {m : Meaning} {a : ℕ} {T : Table} where
   shown-arrives (first b s t last into from move) =
       (record { path = record { some = omega arith; laid = (from, into .there, into .ends) }; leads = (s, move, refl) }, (into .most, tt))
   shown-arrives (next b s t c q ts last into from move more shown) =
-      let r = shown-arrives shown in
-      (record {
-        path = record { some = omega (arith, length-append ts (t ∷ [])); laid = chain-join G ts (t ∷ []) a c b (r .0 .path .laid) (from, into .there, into .ends) };
-        leads = subst (λ w. Leads m 0 w s) (sym (word-join ts (t ∷ []))) (leads-push m (word ts) (t .label) 0 q s (r .0 .leads) move);
-      }, at-least-join G (T .rank b s) ts (t ∷ []) (at-least-less G (T .rank b s) (T .rank c q) ts more (r .1)) (into .most, tt))
+      let r = shown-arrives shown in (
+        record {
+          path = record { some = omega (arith, length-append ts (t ∷ [])); laid = chain-join G ts (t ∷ []) a c b (r .0 .path .laid) (from, into .there, into .ends) };
+          leads = subst (λ w. Leads m 0 w s) (sym (word-join ts (t ∷ []))) (leads-push m (word ts) (t .label) 0 q s (r .0 .leads) move);
+        },
+        at-least-join G (T .rank b s) ts (t ∷ []) (at-least-less G (T .rank b s) (T .rank c q) ts more (r .1)) (into .most, tt),
+      )
 
   shown-time : Closed G m a T → (b s : ℕ) (ts : List Triple) → Shown G m a T b s ts → Arrives G m a b s ts × (pathTime G ts + 1 ≡ T .rank b s)
   shown-time c b s ts shown =
@@ -111,11 +113,11 @@ module _ (G : Links) (m : Meaning) (a : ℕ) (T : Table) where
   shown-same (next b s t c q ts last into from move more shown) us other =
       ⊎-elim (λ x. absurd (let e = same-step _ t (x .t) (Some q) None last (x .last) .1 in let z : _≡_ {A = ℕ} 0 1 = cc in omega arith))
       (λ x.
-          let e = same-step _ t (x .t) (Some q) (Some (x .q)) last (x .last) in
-          let k : q ≡ x .q = (let h = e .1 in cc) in
-          let d : x .t .from ≡ c = ap (λ (y : Triple). y .from) (sym (e .0)) ∙ from in
-          let rest = shown-same shown (x .us) (subst (λ y. Shown G m a T c y (x .us)) (sym k) (subst (λ y. Shown G m a T y (x .q) (x .us)) d (x .shown))) in
-          (λ i. rest i ++ e .0 i ∷ []) ∙ sym (x .path))
+      let e = same-step _ t (x .t) (Some q) (Some (x .q)) last (x .last) in
+      let k : q ≡ x .q = (let h = e .1 in cc) in
+      let d : x .t .from ≡ c = ap (λ (y : Triple). y .from) (sym (e .0)) ∙ from in
+      let rest = shown-same shown (x .us) (subst (λ y. Shown G m a T c y (x .us)) (sym k) (subst (λ y. Shown G m a T y (x .q) (x .us)) d (x .shown))) in
+      (λ i. rest i ++ e .0 i ∷ []) ∙ sym (x .path))
       (shown-view b s us other)
 
   -- The arrival that a shown path comes to with its i-th link.

@@ -19,14 +19,15 @@ over-more new old now i x lt is over = (
   omega arith,
   over .1,
   ap (λ us. set us i x) (over .2)
-  ∙ set-append-right (take i new) (drop i old) i i x (length-take-le i new (omega arith)) (omega arith)
-  ∙ ap (λ us. take i new ++ us) front
-  ∙ sym (append-assoc (take i new) (x ∷ []) (drop (i + 1) old))
-  ∙ ap (λ us. us ++ drop (i + 1) old) (ap (λ y. take i new ++ y ∷ []) is ∙ sym (take-more new i 0 lt)),
+      ∙ set-append-right (take i new) (drop i old) i i x (length-take-le i new (omega arith)) (omega arith)
+      ∙ ap (λ us. take i new ++ us) front
+      ∙ sym (append-assoc (take i new) (x ∷ []) (drop (i + 1) old))
+      ∙ ap (λ us. us ++ drop (i + 1) old) (ap (λ y. take i new ++ y ∷ []) is ∙ sym (take-more new i 0 lt)),
 )
   where
     nothing : i - i ≡ 0
     nothing = omega arith
+
     front : set (drop i old) (i - i) x ≡ x ∷ drop (i + 1) old
     front = ap (λ n. set (drop i old) n x) nothing ∙ ap (λ us. set us 0 x) (drop-more old i 0 (omega (arith, over .1)))
 

@@ -79,7 +79,7 @@ puts-last memory memory′ at last n large small room front place long =
     let more = decimal-long n large small in
     subst (λ bytes. Puts memory at bytes (set memory′ last (48 + n % 10))) (sym (decimal-step n large small))
     (puts-then memory at (decimal (n / 10)) memory′ front (omega arith) ((48 + n % 10) ∷ []) _
-     (ap (λ k. set memory′ k (48 + n % 10)) place ∙ puts-one memory′ (at + length (decimal (n / 10))) (48 + n % 10) (omega arith)))
+    (ap (λ k. set memory′ k (48 + n % 10)) place ∙ puts-one memory′ (at + length (decimal (n / 10))) (48 + n % 10) (omega arith)))
 
 -- The line's end.
 pub puts-end : (memory ns : List ℕ) (at : ℕ) → length ns ≡ 0 → at < length memory → Puts memory at (fields ns) (set memory at 10)
@@ -92,16 +92,15 @@ puts-field memory memory′ memory″ ns at after some room number place rest =
     let sum = length-append (32 ∷ []) (decimal (getD ns 0 0)) in
     subst (λ bytes. Puts memory at bytes memory″) (sym (fields-first ns some))
     (puts-then memory at (32 ∷ decimal (getD ns 0 0)) memory′
-     (puts-then memory at (32 ∷ []) (set memory at 32) (puts-one memory at 32 (omega arith)) (omega arith) (decimal (getD ns 0 0)) memory′ number)
-     (omega arith) (fields (take (length ns - 1) (drop 1 ns))) memory″ (subst (λ n. Puts memory′ n (fields (take (length ns - 1) (drop 1 ns))) memory″) (let e : after ≡ at + length (32 ∷ decimal (getD ns 0 0)) = omega arith in e) rest))
+    (puts-then memory at (32 ∷ []) (set memory at 32) (puts-one memory at 32 (omega arith)) (omega arith) (decimal (getD ns 0 0)) memory′ number)
+    (omega arith) (fields (take (length ns - 1) (drop 1 ns))) memory″ (subst (λ n. Puts memory′ n (fields (take (length ns - 1) (drop 1 ns))) memory″) (let e : after ≡ at + length (32 ∷ decimal (getD ns 0 0)) = omega arith in e) rest))
 
 -- The line's word, and then its numbers.
 pub puts-line : (memory memory′ memory″ head ns : List ℕ) (len : ℕ) → len ≡ length head + length (fields ns) → length head + length (fields ns) ≤ length memory → Puts memory 0 head memory′ → Puts memory′ (length head) (fields ns) memory″ → (length (head ++ fields ns) ≤ length memory) × (len ≡ length (head ++ fields ns)) × (memory″ ≡ (head ++ fields ns) ++ drop (length (head ++ fields ns)) memory)
 puts-line memory memory′ memory″ head ns len is room front back =
-    let sum = length-append head (fields ns) in
-    (
+    let sum = length-append head (fields ns) in (
       omega arith,
       omega arith,
       puts-then memory 0 head memory′ front (omega arith) (fields ns) memory″ (subst (λ n. Puts memory′ n (fields ns) memory″) (sym (zero-add (length head))) back)
-      ∙ ap (λ n. (head ++ fields ns) ++ drop n memory) (zero-add (length (head ++ fields ns))),
+          ∙ ap (λ n. (head ++ fields ns) ++ drop n memory) (zero-add (length (head ++ fields ns))),
     )

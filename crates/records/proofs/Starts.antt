@@ -25,5 +25,5 @@ start-whole (w ∷ v ∷ us) first second room =
     let O : Result Shape TapeFault = Ok (start (pointsIn w) (v - 0x90000000) (take (countIn w) us)) in
     (λ i. Ok (start (pointsIn w) (v - 0x90000000) (take (sub-zero (countIn w) i) (all i))))
     ∙ sym
-      (ap (λ (b : Bool). cond b (cond (isWindow v) (cond (ltb (length us) (countIn w)) E O) (Err (Stray 1))) (Err (Stray 0))) (eq-eqb w _ first)
-      ∙ ap (λ (b : Bool). cond b (cond (ltb (length us) (countIn w)) E O) (Err (Stray 1))) (eq-eqb _ 9 second) ∙ ap (λ (b : Bool). cond b E O) (le-ltb (length us) (countIn w) room′))
+    (ap (λ (b : Bool). cond b (cond (isWindow v) (cond (ltb (length us) (countIn w)) E O) (Err (Stray 1))) (Err (Stray 0))) (eq-eqb w _ first)
+    ∙ ap (λ (b : Bool). cond b (cond (ltb (length us) (countIn w)) E O) (Err (Stray 1))) (eq-eqb _ 9 second) ∙ ap (λ (b : Bool). cond b E O) (le-ltb (length us) (countIn w) room′))

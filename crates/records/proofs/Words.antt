@@ -29,9 +29,12 @@ words-at (a ∷ b ∷ c ∷ d ∷ bs) (suc i) h =
   where
     e0 : suc (suc (suc (suc (4 * i)))) ≡ 4 * suc i
     e0 = omega arith
+
     e1 : suc (suc (suc (suc (4 * i + 1)))) ≡ 4 * suc i + 1
     e1 = omega arith
+
     e2 : suc (suc (suc (suc (4 * i + 2)))) ≡ 4 * suc i + 2
     e2 = omega arith
+
     e3 : suc (suc (suc (suc (4 * i + 3)))) ≡ 4 * suc i + 3
     e3 = omega arith

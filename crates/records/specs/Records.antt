@@ -57,8 +57,8 @@ startShape (w ∷ []) = cond (isStart w) (Err (Short 1)) (Err (Stray 0))
 startShape (w ∷ v ∷ ws) =
     cond (isStart w)
     (cond (isWindow v)
-     (cond (ltb (length ws) (countIn w)) (Err (Short (length ws + 2))) (Ok (start (pointsIn w) (v - 0x90000000) (take (countIn w) ws))))
-     (Err (Stray 1)))
+    (cond (ltb (length ws) (countIn w)) (Err (Short (length ws + 2))) (Ok (start (pointsIn w) (v - 0x90000000) (take (countIn w) ws))))
+    (Err (Stray 1)))
     (Err (Stray 0))
 
 -- Each further record is one word: 0xA in the top four bits is an advance, with the clock in the other 28.

@@ -11,11 +11,20 @@ use crate::fault::RunFault;
 #[derive(Clone, Copy)]
 pub enum Line {
     /// The watch is open: its number of points, and the size of its query.
-    Start { n: u32, size: u32 },
+    Start {
+        n: u32,
+        size: u32,
+    },
     /// The run ends here.
-    Fault { fault: RunFault },
+    Fault {
+        fault: RunFault,
+    },
     /// The tape's end: how many records had a line, and how many pairs were announced and withdrawn.
-    End { records: u64, announced: u64, withdrawn: u64 },
+    End {
+        records: u64,
+        announced: u64,
+        withdrawn: u64,
+    },
 }
 
 /// Why a line is not written.
@@ -44,12 +53,24 @@ impl Line {
         ensures { λ r. ⌜ Writes (lineBytes self) (now (memory .entry)) (now (memory .exit)) r ⌝ }
     {
         match self {
-            Line::Start { n, size } => write_fields(b"start", &[u64::from(n), u64::from(size)], memory),
+            Line::Start { n, size } => write_fields(
+                b"start",
+                &[u64::from(n), u64::from(size)],
+                memory,
+            ),
             Line::Fault { fault } => {
                 let (layer, number, word) = (fault.layer(), fault.number(), fault.word());
-                write_fields(b"fault", &[u64::from(layer), u64::from(number), word as u64], memory)
+                write_fields(
+                    b"fault",
+                    &[u64::from(layer), u64::from(number), word as u64],
+                    memory,
+                )
             }
-            Line::End { records, announced, withdrawn } => write_fields(b"end", &[records, announced, withdrawn], memory),
+            Line::End {
+                records,
+                announced,
+                withdrawn,
+            } => write_fields(b"end", &[records, announced, withdrawn], memory),
         }
     }
 }
@@ -122,5 +143,9 @@ fn fields_len(numbers: &[u64]) -> usize
 fn decimal_len(number: u64) -> usize
     ensures { λ r. ⌜ r ≡ length (decimal number) ⌝ }
 {
-    if number < 10 { 1 } else { 1 + decimal_len(number / 10) }
+    if number < 10 {
+        1
+    } else {
+        1 + decimal_len(number / 10)
+    }
 }

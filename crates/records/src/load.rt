@@ -33,5 +33,8 @@ fn word_at(bytes: &[u8], at: usize) -> u32
     requires { ⌜ at + 4 ≤ length (now bytes) ⌝ }
     ensures { λ r. ⌜ r ≡ wordOfBytes (getD (now (bytes .entry)) at 0) (getD (now (bytes .entry)) (at + 1) 0) (getD (now (bytes .entry)) (at + 2) 0) (getD (now (bytes .entry)) (at + 3) 0) ⌝ }
 {
-    u32::from(bytes[at]) + 256 * (u32::from(bytes[at + 1]) + 256 * (u32::from(bytes[at + 2]) + 256 * u32::from(bytes[at + 3])))
+    u32::from(bytes[at])
+        + 256
+            * (u32::from(bytes[at + 1])
+                + 256 * (u32::from(bytes[at + 2]) + 256 * u32::from(bytes[at + 3])))
 }

@@ -6,16 +6,34 @@ use crate::fault::TapeFault;
 /// A record. The start borrows the expression's words from the tape; the others hold numbers.
 #[derive(Clone, Copy)]
 pub enum Record<'a> {
-    Start { n: u32, window: u32, expression: &'a [u32] },
-    Advance { clock: u32 },
-    Add { from: u32, to: u32, label: u32 },
-    Drop { from: u32, to: u32, label: u32 },
+    Start {
+        n: u32,
+        window: u32,
+        expression: &'a [u32],
+    },
+    Advance {
+        clock: u32,
+    },
+    Add {
+        from: u32,
+        to: u32,
+        label: u32,
+    },
+    Drop {
+        from: u32,
+        to: u32,
+        label: u32,
+    },
 }
 
 const START: u32 = 0x8000_0000;
+
 const WINDOW: u32 = 0x9000_0000;
+
 const ADVANCE: u32 = 0xA000_0000;
+
 const ADD: u32 = 0xB000_0000;
+
 const DROP: u32 = 0xC000_0000;
 
 const KIND_BITS: u32 = 28;
@@ -43,7 +61,11 @@ pub fn start(words: &[u32]) -> Result<Record<'_>, TapeFault>
     if rest.len() < count {
         return Err(TapeFault::Short { word: words.len() });
     }
-    Ok(Record::Start { n, window: *second - WINDOW, expression: &rest[0..count] })
+    Ok(Record::Start {
+        n,
+        window: *second - WINDOW,
+        expression: &rest[0..count],
+    })
 }
 
 /// The record at a place after the start, or none at the end of the tape. `cut` says that bytes follow the last whole word.
@@ -53,7 +75,11 @@ pub fn next(words: &[u32], cut: bool, place: usize) -> Result<Option<Record<'_>>
     ensures { λ r. ⌜ seenRecord r ≡ recordShape (now (words .entry)) cut place ⌝ }
 {
     if place >= words.len() {
-        return if cut { Err(TapeFault::Short { word: words.len() }) } else { Ok(None) };
+        return if cut {
+            Err(TapeFault::Short { word: words.len() })
+        } else {
+            Ok(None)
+        };
     }
     match decode(words[place]) {
         Some(record) => Ok(Some(record)),

@@ -39,11 +39,21 @@ pub fn begin(words: &[u32]) -> Result<Begun, RunFault>
 fn read(words: &[u32]) -> Result<Begun, TapeFault>
     ensures { λ r. ⌜ ReadsStart (now (words .entry)) r ⌝ }
 {
-    let Record::Start { n, window, expression } = record::start(words)? else {
+    let Record::Start {
+        n,
+        window,
+        expression,
+    } = record::start(words)?
+    else {
         unreachable()
     };
     let mut machine = Machine::empty();
     machine.read(expression)?;
     let place = expression.len() + 2;
-    Ok(Begun { n, window, machine, place })
+    Ok(Begun {
+        n,
+        window,
+        machine,
+        place,
+    })
 }

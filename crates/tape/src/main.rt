@@ -68,11 +68,29 @@ fn open(bytes: &[u8], words: &mut [u32; MOST_WORDS]) -> Result<(Begun, usize), R
 
 // What comes after the start. Records are not run yet.
 fn follow(rt: &LibcRuntime, words: &[u32], cut: bool, begun: Begun) -> Result<(), AnyError> {
-    print(rt, Line::Start { n: begun.n, size: begun.machine.size() })?;
+    print(
+        rt,
+        Line::Start {
+            n: begun.n,
+            size: begun.machine.size(),
+        },
+    )?;
     match record::next(words, cut, begun.place) {
-        Ok(None) => print(rt, Line::End { records: 0, announced: 0, withdrawn: 0 }),
+        Ok(None) => print(
+            rt,
+            Line::End {
+                records: 0,
+                announced: 0,
+                withdrawn: 0,
+            },
+        ),
         Ok(Some(_)) => Err("the records of a tape are not run yet".into()),
-        Err(fault) => print(rt, Line::Fault { fault: RunFault::from(fault) }),
+        Err(fault) => print(
+            rt,
+            Line::Fault {
+                fault: RunFault::from(fault),
+            },
+        ),
     }
 }
 

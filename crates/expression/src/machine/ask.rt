@@ -21,6 +21,9 @@ pub impl Query for Machine as MachineQuery {
 
     fn moves(&self, state: u32, label: u32, next: u32) -> bool {
         let (s, t) = (state as usize, next as usize);
-        s < MOST_STATES && t < MOST_STATES && masks::has(self.follow[s], next) && self.labels[t] == label
+        s < MOST_STATES
+            && t < MOST_STATES
+            && masks::has(self.follow[s], next)
+            && self.labels[t] == label
     }
 }

@@ -15,7 +15,10 @@ impl Machine {
         ensures { λ r. ⌜ ReadingAnswers (now (words .entry)) (now (self .entry)) (now (self .exit)) r ⌝ }
     {
         if words.is_empty() || words.len() > MOST_WORDS {
-            return Err(Fault { cause: Cause::WordCount, place: 0 });
+            return Err(Fault {
+                cause: Cause::WordCount,
+                place: 0,
+            });
         }
         *self = reader::machine_of(words)?;
         Ok(())

@@ -15,9 +15,8 @@ returns c =
     let r : Reader = record { words = c .args .words; place = 0; depth = 0; machine = c .empty .result } in
     let fresh : Fresh (c .args .words .now) r = record { words = refl; place = refl; depth = refl; empty = c .empty .ensures } in
     let read = c .in-Continue-whole .ensures tt .read in
-    let done = c .finish .ensures in
-    (
+    let done = c .finish .ensures in (
       no-fault (c .args .words .now) r fresh _ _ read (c .if-reader-words .left),
       fills (c .args .words .now) r fresh _ _ read (c .if-reader-words .left) _ (done .letters)
-      (record { labels = done .labels; ends = done .ends; start = done .start; follow = done .follow }),
+          (record { labels = done .labels; ends = done .ends; start = done .start; follow = done .follow }),
     )

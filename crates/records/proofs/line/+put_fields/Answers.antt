@@ -29,8 +29,7 @@ put-decimal-after-requires t c κs =
 pub put-fields-requires : need.put-fields-requires
 put-fields-requires t c κs =
     let some = eqb-false _ _ (sym (c .if-is-empty .ensures tt)) in
-    let long = fields-long (c .args .numbers .now) (omega arith) in
-    (
+    let long = fields-long (c .args .numbers .now) (omega arith) in (
       omega (arith, ap length (take-rest (c .args .numbers .now) 1), length-drop 1 (c .args .numbers .now)),
       omega (arith, c .put-decimal-after .ensures .value, length-set (c .args .memory .now) (c .args .at) 32, c .put-decimal-after .kept .memory),
     )

@@ -10,8 +10,7 @@ loop-i-holds c = (c .told-memory, over-none _ _ (omega (arith, words-length (c .
 
 pub loop-i-again : need.loop-i-again
 loop-i-again c =
-    let count = words-length (c .args .bytes .now) in
-    (
+    let count = words-length (c .args .bytes .now) in (
       length-set (c .loop-i .memory) _ _ ∙ c .loop-i .inv .0,
       over-more _ _ _ _ _ (omega arith) (c .word-at .ensures ∙ sym (words-at (c .args .bytes .now) (c .loop-i .i) (omega arith))) (c .loop-i .inv .1),
     )

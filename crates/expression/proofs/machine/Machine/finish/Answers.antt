@@ -13,8 +13,7 @@ pub ghost-self : need.ghost-self
 ghost-self c =
     let m = c .args .self .now in
     let p = c .pre in
-    let some : 0 < length (m .follow) = omega (arith, m .rows) in
-    (
+    let some : 0 < length (m .follow) = omega (arith, m .rows) in (
       m .few,
       (
         m .names,

@@ -7,8 +7,7 @@ use Rattle.expression.proofs.machine.Machine.letter.Needs as need
 
 pub ghost-self : need.ghost-self
 ghost-self c =
-    let m = c .args .self .now in
-    (
+    let m = c .args .self .now in (
       omega arith,
       (
         length-set (m .labels) _ _ ∙ m .names,

@@ -32,8 +32,8 @@ pub piece-returns : need.piece-returns
 piece-returns t c = record {
   read =
       elim (c .match-branch-3 .came) [
-        piece-in-Some-Letter·in-Continue-part w ↦ read-piece-at _ _ _ _ _ _ _ (w .in-Continue-part .ensures tt) (w .self-is) (w .part-is) (c .repeats .ensures .read)
-      | piece-in-Some-Open·in-Continue-part-2 w ↦ read-piece-at _ _ _ _ _ _ _ (w .in-Continue-part-2 .ensures tt) (w .self-is) (w .part-is) (c .repeats .ensures .read)
+        | piece-in-Some-Letter·in-Continue-part w ↦ read-piece-at _ _ _ _ _ _ _ (w .in-Continue-part .ensures tt) (w .self-is) (w .part-is) (c .repeats .ensures .read)
+        | piece-in-Some-Open·in-Continue-part-2 w ↦ read-piece-at _ _ _ _ _ _ _ (w .in-Continue-part-2 .ensures tt) (w .self-is) (w .part-is) (c .repeats .ensures .read)
       ];
   next = c .repeats .ensures .next;
 }

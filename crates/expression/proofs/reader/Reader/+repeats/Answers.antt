@@ -20,15 +20,15 @@ returns t c = record {
   read =
       let r = c .args .self .now in
       elim (c .match-branch-3 .came) [
-        in-Some-Star w ↦
+        | in-Some-Star w ↦
             let e = w .star-repeated .ensures in
             repeated-at r _ _ _ Star star (c .args .part) _ _ _ (repeat-star r _ (c .args .part) (search needs) (record { letters = e .letters; labels = e .labels; follow = e .follow })) (w .self-is) (w .repeated-is ∙ e .value)
             (c .repeats .ensures .read)
-      | in-Some-Plus w ↦
+        | in-Some-Plus w ↦
             let e = w .plus-repeated .ensures in
             repeated-at r _ _ _ Plus plus (c .args .part) _ _ _ (repeat-plus r _ (c .args .part) (search needs) (record { letters = e .letters; labels = e .labels; follow = e .follow })) (w .self-is) (w .repeated-is ∙ e .value)
             (c .repeats .ensures .read)
-      | in-Some-Maybe w ↦
+        | in-Some-Maybe w ↦
             repeated-at r _ _ _ Maybe maybe (c .args .part) _ _ _ (repeat-maybe r (c .args .part) (search needs)) (w .self-is) (w .repeated-is ∙ w .or-nothing-repeated .ensures)
             (c .repeats .ensures .read)
       ];
