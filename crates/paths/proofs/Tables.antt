@@ -3,13 +3,13 @@ use mathlib.Core.Bool.{Bool, true, false, cond}
 use mathlib.Core.List.{List, [], _∷_, _++_}
 use mathlib.Core.Logic.{_⊎_, inl, inr, ⊎-elim}
 use mathlib.Core.Path.{_≡_, refl, sym, ap, subst, _∙_}
-use Prim.Native.Nat.{ℕ, _+_, _-_, _*_, _/_, _%_, _≤_, _<_, min}
+use Prim.Native.Nat.{ℕ, zero, suc, _+_, _-_, _*_, _/_, _%_, _≤_, _<_, min}
 use native.Mathlib.Nat.{mul-comm}
 use native.Mathlib.Omega.{arith}
 use lib.Dec.{ltb}
 use lib.ListN.{length, length-append}
 use Rattle.std.proofs.shelf.Bits.{mul-add-lt, div-mul-add, mod-mul-add}
-use Rattle.std.proofs.shelf.Tests.{cases-lt, cond-true, cond-false, lt-ltb, le-ltb}
+use Rattle.std.proofs.shelf.Tests.{cases-lt, cases-bool, both-ways}
 use Rattle.std.specs.Options.{isSome}
 use Rattle.std.specs.declared.option.Option.{Option}
 use Rattle.std.specs.declared.option.Option.the-variants.{Some, None}
@@ -19,7 +19,8 @@ use Rattle.query.proofs.Runs.{leads-push}
 use Rattle.paths.specs.Links.{Links, Triple}
 use Rattle.paths.specs.Paths.{Chain, Path, word, pathTime}
 use Rattle.paths.specs.Arrivals.{Arrives, Reached, ArrivalTime, LastStep}
-use Rattle.paths.specs.Tables.{Step, Table, linkRank, Into, Shown, first, next, Supported, Closed, Right, Below, TableLaw}
+use Rattle.paths.specs.Pairs.{Stands}
+use Rattle.paths.specs.Tables.{Step, Table, linkRank, Into, Shown, first, next, Supported, Closed, Right, PairShown, Below, TableLaw}
 use Rattle.paths.proofs.Chains.{chain-join, word-join, AtLeast, at-least-less, at-least-join, time-at-least, at-least-time}
 use Rattle.paths.proofs.Pigeons.{Different, at-most}
 
@@ -178,5 +179,98 @@ module _ (G : Links) (m : Meaning) (a : ℕ) (T : Table) where
     shown-short : length ts ≤ n * m .size
     shown-short = at-most (n * m .size) (length ts) code different
 
+-- Of the accepting states that are reached, the lowest of the greatest rank.
+module _ (m : Meaning) (rank : ℕ → ℕ) where
+  record Best (k : ℕ) : Type 0 where
+    state : ℕ
+    below : state < k
+    accepts : m .accepting state ≡ true
+    reached : 0 < rank state
+    most : (s : ℕ) → s < k → m .accepting s ≡ true → rank s ≤ rank state
+    lowest : (s : ℕ) → s < k → m .accepting s ≡ true → rank s ≡ rank state → state ≤ s
+
+  record NoBest (k : ℕ) : Type 0 where
+    none : (s : ℕ) → s < k → m .accepting s ≡ true → rank s ≡ 0
+
+  -- What holds below k and at k holds below k + 1.
+  one-more : (P : ℕ → Type 0) (k : ℕ) → ((s : ℕ) → s < k → P s) → P k → (s : ℕ) → s < suc k → P s
+  one-more P k before here s h = ⊎-elim (λ lt. before s lt) (λ ge. subst P (let e : k ≡ s = omega arith in e) here) (cases-lt s k)
+
+  -- The state k is the best so far.
+  best-new : (k : ℕ) → m .accepting k ≡ true → 0 < rank k → ((s : ℕ) → s < k → m .accepting s ≡ true → rank s < rank k) → Best (suc k)
+  best-new k good pos before = record {
+    state = k;
+    below = omega arith;
+    accepts = good;
+    reached = pos;
+    most = one-more (λ s. m .accepting s ≡ true → rank s ≤ rank k) k (λ s h e. let z = before s h e in omega arith) (λ e. omega arith);
+    lowest = one-more (λ s. m .accepting s ≡ true → rank s ≡ rank k → k ≤ s) k (λ s h e same. absurd (let z = before s h e in omega arith)) (λ e same. omega arith);
+  }
+
+  -- Or the one before stays the best.
+  best-kept : (k : ℕ) (x : Best k) → (m .accepting k ≡ true → rank k ≤ rank (x .state)) → Best (suc k)
+  best-kept k x worse = record {
+    state = x .state;
+    below = omega (arith, x .below);
+    accepts = x .accepts;
+    reached = x .reached;
+    most = one-more (λ s. m .accepting s ≡ true → rank s ≤ rank (x .state)) k (x .most) worse;
+    lowest = one-more (λ s. m .accepting s ≡ true → rank s ≡ rank (x .state) → x .state ≤ s) k (x .lowest) (λ e same. omega (arith, x .below));
+  }
+
+  none-kept : (k : ℕ) → NoBest k → (m .accepting k ≡ true → rank k ≡ 0) → NoBest (suc k)
+  none-kept k n here = record { none = one-more (λ s. m .accepting s ≡ true → rank s ≡ 0) k (n .none) here }
+
+  more : (k : ℕ) → NoBest k ⊎ Best k → NoBest (suc k) ⊎ Best (suc k)
+  more k sofar = ⊎-elim accepting (λ bad. ⊎-elim (λ n. inl (none-kept k n (λ e. absurd (both-ways _ bad e)))) (λ x. inr (best-kept k x (λ e. absurd (both-ways _ bad e)))) sofar) (cases-bool (m .accepting k))
+    where
+      accepting : m .accepting k ≡ true → NoBest (suc k) ⊎ Best (suc k)
+      accepting good =
+          ⊎-elim
+          (λ n.
+          ⊎-elim (λ pos. inr (best-new k good pos (λ s h e. let z = n .none s h e in omega arith))) (λ zero′. inl (none-kept k n (λ e. omega arith))) (cases-lt 0 (rank k)))
+          (λ x.
+          ⊎-elim (λ up. inr (best-new k good (omega arith) (λ s h e. let z = x .most s h e in omega arith))) (λ down. inr (best-kept k x (λ e. down))) (cases-lt (rank (x .state)) (rank k)))
+          sofar
+
+  best : (k : ℕ) → NoBest k ⊎ Best k
+  best zero = inl (record { none = λ s h e. absurd (omega arith) })
+  best (suc k) = more k (best k)
+
+-- A pair that stands has a shown path.
+pair-shown : (G : Links) (m : Meaning) (a : ℕ) (T : Table) → Lawful m → Supported G m a T → Right G m a T → (b : ℕ) → Stands G m a b → (ts : List Triple) × PairShown G m a T b ts
+pair-shown G m a T law up right-table b st = ⊎-elim none some (best m (T .rank b) (m .size))
+  where
+    none : NoBest m (T .rank b) (m .size) → (ts : List Triple) × PairShown G m a T b ts
+    none n =
+        absurd (let z = n .none (st .state) (law .ends (st .state) (st .accepts) .0) (st .accepts) in let p = right-table .only b (st .state) (st .reached) in omega arith)
+
+    some : Best m (T .rank b) (m .size) → (ts : List Triple) × PairShown G m a T b ts
+    some x =
+        let time = right-table .reached b (x .state) (x .reached) in
+        let shown = up .shown b (x .state) (x .reached) in (
+          shown .0,
+          record {
+            state = x .state;
+            accepts = x .accepts;
+            reached = x .reached;
+            time = record {
+              listed = st .listed;
+              state = x .state;
+              accepts = x .accepts;
+              path = time .path;
+              arrives = time .arrives;
+              time = time .time;
+              most = λ s accepts ts arrives.
+                  let pos = right-table .only b s (ts, arrives) in
+                  omega (arith, right-table .reached b s pos .most ts arrives, x .most s (law .ends s accepts .0) accepts, x .reached);
+            };
+            lowest = λ s accepts same. x .lowest s (law .ends s accepts .0) accepts same;
+            shown = shown .1;
+          },
+        )
+
 pub table-law : TableLaw
-table-law G m a n T law below up closed = (right up closed, λ b s ts shown. shown-short G m a T n law below b s ts shown)
+table-law G m a n T law below up closed =
+    let r = right up closed in
+    (r, λ b s ts shown. shown-short G m a T n law below b s ts shown, pair-shown G m a T law up r)

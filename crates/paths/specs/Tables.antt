@@ -11,7 +11,7 @@ use Rattle.query.specs.Meaning.{Meaning, Lawful}
 use Rattle.paths.specs.Links.{Links, Triple}
 use Rattle.paths.specs.Paths.{timeOf, pathTime}
 use Rattle.paths.specs.Arrivals.{Arrives, Reached, ArrivalTime, LastStep}
-use Rattle.paths.specs.Pairs.{PairTime}
+use Rattle.paths.specs.Pairs.{Stands, PairTime}
 
 -- A last step: a link, after the start itself in state 0, or after the arrival of this state where the link comes from.
 pub record Step : Type 0 where
@@ -73,8 +73,11 @@ pub record PairShown (G : Links) (m : Meaning) (a : ℕ) (T : Table) (b : ℕ) (
 abbrev pub Below : ℕ → Links → Type 0
 Below n G = (t : Triple) → isSome (G t) ≡ true → (t .from < n) × (t .to < n)
 
--- Two local facts make a table right, and no shown path is longer than n × size links.
+-- Two local facts make a table right. Then no shown path is longer than n × size links, and each pair that stands has a shown path.
 abbrev pub TableLaw : Type 0
 TableLaw =
-    (G : Links) (m : Meaning) (a n : ℕ) (T : Table) → Lawful m → Below n G → Supported G m a T → Closed G m a T →
-    Right G m a T × ((b s : ℕ) (ts : List Triple) → Shown G m a T b s ts → length ts ≤ n * m .size)
+    (G : Links) (m : Meaning) (a n : ℕ) (T : Table) →
+    Lawful m → Below n G → Supported G m a T → Closed G m a T →
+    Right G m a T
+    × ((b s : ℕ) (ts : List Triple) → Shown G m a T b s ts → length ts ≤ n * m .size)
+    × ((b : ℕ) → Stands G m a b → (ts : List Triple) × PairShown G m a T b ts)
