@@ -38,29 +38,46 @@ pub fn sound(rng: &mut Rng, letters: RangeInclusive<usize>) -> Expression {
             rng.within(4..=16)
         };
         let labels = some_labels(rng, size);
-        let letters = rng.within(letters.clone());
-        let depth = if rng.chance(80) {
-            rng.within(0..=5)
-        } else {
-            MOST_OPEN
-        };
-        let expression = Shape {
-            labels,
-            bars: rng.within(0..=60),
-            cuts: rng.within(30..=90),
-            groups: rng.within(0..=30),
-            marks: rng.within(0..=50),
-        }
-        .expression(rng, letters, depth);
-        // Groups and marks may have made it too long.
-        if expression.words().len() <= MOST_WORDS {
+        if let Some(expression) = short_over(rng, labels, &letters) {
             return expression;
         }
     }
 }
 
+/// A sound expression over the labels, with a count of letters out of the range.
+pub fn sound_over(rng: &mut Rng, labels: &[u8], letters: RangeInclusive<usize>) -> Expression {
+    loop {
+        if let Some(expression) = short_over(rng, labels.to_vec(), &letters) {
+            return expression;
+        }
+    }
+}
+
+/// A random expression, or none: groups and marks may have made it too long.
+fn short_over(
+    rng: &mut Rng,
+    labels: Vec<u8>,
+    letters: &RangeInclusive<usize>,
+) -> Option<Expression> {
+    let letters = rng.within(letters.clone());
+    let depth = if rng.chance(80) {
+        rng.within(0..=5)
+    } else {
+        MOST_OPEN
+    };
+    let expression = Shape {
+        labels,
+        bars: rng.within(0..=60),
+        cuts: rng.within(30..=90),
+        groups: rng.within(0..=30),
+        marks: rng.within(0..=50),
+    }
+    .expression(rng, letters, depth);
+    (expression.words().len() <= MOST_WORDS).then_some(expression)
+}
+
 /// So many labels out of the 16, no two the same.
-fn some_labels(rng: &mut Rng, size: usize) -> Vec<u8> {
+pub fn some_labels(rng: &mut Rng, size: usize) -> Vec<u8> {
     let mut left: Vec<u8> = (0..16).collect();
     (0..size)
         .map(|_| left.swap_remove(rng.below(left.len())))

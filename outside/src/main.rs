@@ -7,7 +7,11 @@
 
 mod expression;
 mod generate;
+mod kin;
+mod known;
 mod language;
+mod product;
+mod products;
 mod reading;
 mod report;
 mod rng;
@@ -21,8 +25,8 @@ use std::env;
 use std::path::{Path, PathBuf};
 use std::process::ExitCode;
 
-use report::{Failure, compare, grouped};
-use session::check_sessions;
+use report::{Expected, Failure, compare, grouped, join_words};
+use session::{Group, Tally, check_sessions};
 
 const DEFAULT_SEED: u64 = 20_240_229;
 
@@ -53,9 +57,13 @@ fn main() -> ExitCode {
         return ExitCode::from(2);
     };
     match compare_all(&options) {
-        Ok((tapes, words)) => {
-            let (tapes, words) = (grouped(tapes), grouped(words));
-            println!("outside: {tapes} tapes and {words} words agree");
+        Ok(Compared {
+            tapes,
+            words,
+            products,
+        }) => {
+            let [tapes, words, products] = [tapes, words, products].map(grouped);
+            println!("outside: {tapes} tapes, {words} words and {products} products agree");
             ExitCode::SUCCESS
         }
         Err((group, Failure::Mismatch(mismatch))) => {
@@ -70,30 +78,65 @@ fn main() -> ExitCode {
     }
 }
 
-/// Compares everything; gives how many tapes and words, or the group in which
-/// it stopped and why.
-fn compare_all(options: &Options) -> Result<(usize, usize), (String, Failure)> {
-    let mut all_tapes = 0;
+/// How much was compared.
+#[derive(Default)]
+struct Compared {
+    tapes: usize,
+    words: usize,
+    products: usize,
+}
+
+/// Compares everything; gives how much that was, or the group in which it
+/// stopped and why.
+fn compare_all(options: &Options) -> Result<Compared, (String, Failure)> {
+    let mut all = Compared::default();
     for group in &tapes::GROUPS {
         let name = format!("tapes: {}", group.name);
         let count = compare_tapes(options, group).map_err(|failure| (name.clone(), failure))?;
         println!("{name}: {} compared", grouped(count));
-        all_tapes += count;
+        all.tapes += count;
     }
-    let mut all_words = 0;
     for group in &words::GROUPS {
         let name = format!("words: {}", group.name);
-        let tally = compare_words(options, group).map_err(|failure| (name.clone(), failure))?;
-        println!(
-            "{name}: {} words ({} accepted) and {} readings ({} sound) compared",
-            grouped(tally.words),
-            grouped(tally.accepted),
-            grouped(tally.readings),
-            grouped(tally.sound),
-        );
-        all_words += tally.words;
+        let tally = compare_sessions(options, group).map_err(|failure| (name.clone(), failure))?;
+        println!("{name}: {} compared", told_words(&tally));
+        all.words += tally.words;
     }
-    Ok((all_tapes, all_words))
+    for group in &products::GROUPS {
+        let name = format!("products: {}", group.name);
+        let tally = compare_sessions(options, group).map_err(|failure| (name.clone(), failure))?;
+        println!("{name}: {} compared", told_products(&tally));
+        all.words += tally.words;
+        all.products += tally.products;
+    }
+    let name = "products: cut and unknown commands".to_string();
+    let count = compare_complaints(options).map_err(|failure| (name.clone(), failure))?;
+    println!("{name}: {} compared", grouped(count));
+    Ok(all)
+}
+
+fn told_words(tally: &Tally) -> String {
+    format!(
+        "{} words ({} accepted) and {} readings ({} sound)",
+        grouped(tally.words),
+        grouped(tally.accepted),
+        grouped(tally.readings),
+        grouped(tally.sound),
+    )
+}
+
+fn told_products(tally: &Tally) -> String {
+    let products = format!(
+        "{} products ({} accepting, {} too large, {} refused)",
+        grouped(tally.products),
+        grouped(tally.accepting),
+        grouped(tally.too_large),
+        grouped(tally.refused),
+    );
+    if tally.words == 0 {
+        return products;
+    }
+    format!("{products}, {}", told_words(tally))
 }
 
 fn compare_tapes(options: &Options, group: &tapes::Group) -> Result<usize, Failure> {
@@ -105,10 +148,20 @@ fn compare_tapes(options: &Options, group: &tapes::Group) -> Result<usize, Failu
     Ok(tapes.len())
 }
 
-fn compare_words(options: &Options, group: &words::Group) -> Result<session::Tally, Failure> {
+fn compare_sessions(options: &Options, group: &Group) -> Result<Tally, Failure> {
     check_sessions(&options.words, group.sessions, |index| {
         group.session(options.seed, index)
     })
+}
+
+/// Compares inputs on which WORDS must complain and print nothing else.
+fn compare_complaints(options: &Options) -> Result<usize, Failure> {
+    let inputs = products::complaints(options.seed);
+    runner::check_all(inputs.len(), |index| {
+        let input = join_words(&inputs[index]);
+        compare(&options.words, &input, &Expected::complaint())
+    })?;
+    Ok(inputs.len())
 }
 
 #[cfg(test)]

@@ -37,6 +37,15 @@ impl Expected {
         }
     }
 
+    /// Nothing on standard output, a complaint and a bad end.
+    pub fn complaint() -> Self {
+        Self {
+            stdout: String::new(),
+            status: 1,
+            complains: true,
+        }
+    }
+
     fn is_met_by(&self, actual: &Output) -> bool {
         actual.in_time
             && actual.stdout == self.stdout.as_bytes()

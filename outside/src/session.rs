@@ -3,11 +3,31 @@
 use std::ops::AddAssign;
 use std::path::Path;
 
-use crate::expression::parse;
-use crate::language::Language;
-use crate::reading::read;
+use crate::known::Known;
+use crate::product::{Nesting, Verdict, payload};
+use crate::reading::Fault;
 use crate::report::{Expected, Failure, compare, join_words};
+use crate::rng::Rng;
 use crate::runner;
+
+/// Cases of one kind.
+pub struct Group {
+    /// What they are.
+    pub name: &'static str,
+    /// How many runs of the program they are spread over.
+    pub sessions: usize,
+    /// Makes the commands of one run.
+    pub fill: fn(&mut Rng, &mut Session),
+}
+
+impl Group {
+    /// The commands of one run of the program.
+    pub fn session(&self, seed: u64, index: usize) -> Session {
+        let mut session = Session::default();
+        (self.fill)(&mut Rng::of_case(seed, self.name, index), &mut session);
+        session
+    }
+}
 
 /// Commands for one run, with what the machine then holds.
 #[derive(Debug, Default)]
@@ -28,11 +48,9 @@ struct Exchange {
 
 /// What the machine holds after an accepted reading.
 #[derive(Debug)]
-pub struct Held {
-    /// The labels in the expression.
-    pub labels: Vec<u32>,
-    /// Its language.
-    pub language: Language,
+struct Held {
+    known: Known,
+    /// The command that was the reading.
     basis: usize,
 }
 
@@ -47,6 +65,14 @@ pub struct Tally {
     pub words: usize,
     /// Those accepted.
     pub accepted: usize,
+    /// Products in all, those that are not made because of a fault included.
+    pub products: usize,
+    /// Those that accept their word.
+    pub accepting: usize,
+    /// Those with too many states.
+    pub too_large: usize,
+    /// Those with a fault in an expression.
+    pub refused: usize,
 }
 
 impl AddAssign for Tally {
@@ -55,40 +81,58 @@ impl AddAssign for Tally {
         self.sound += other.sound;
         self.words += other.words;
         self.accepted += other.accepted;
+        self.products += other.products;
+        self.accepting += other.accepting;
+        self.too_large += other.too_large;
+        self.refused += other.refused;
     }
 }
 
 impl Session {
     /// Adds a reading; says whether it is without a fault.
     pub fn read(&mut self, words: &[u32]) -> bool {
-        let (answer, sound) = match read(words) {
-            Ok(size) => (format!("read {size}\n"), true),
-            Err(fault) => (format!("fault 1 {} {}\n", fault.number, fault.place), false),
+        let known = Known::of(words);
+        let answer = match &known {
+            Ok(known) => format!("read {}\n", known.size),
+            Err(fault) => fault_line(*fault),
         };
         self.exchange(1, words, answer);
         self.tally.readings += 1;
-        self.tally.sound += usize::from(sound);
-        if sound {
-            let expression = parse(words).expect("what has no fault has a structure");
-            self.held = Some(Held {
-                labels: expression.labels(),
-                language: Language::of(&expression),
-                basis: self.exchanges.len() - 1,
-            });
-        }
-        sound
+        let Ok(known) = known else {
+            return false;
+        };
+        self.tally.sound += 1;
+        let basis = self.exchanges.len() - 1;
+        self.held = Some(Held { known, basis });
+        true
     }
 
     /// Adds a word to be tried.
     pub fn attempt(&mut self, labels: &[u32]) {
-        let accepted = self
-            .held
-            .as_ref()
-            .is_some_and(|held| held.language.has(labels));
+        let accepted = self.held().is_some_and(|held| held.language.has(labels));
         let answer = if accepted { "yes\n" } else { "no\n" };
         self.exchange(2, labels, answer.to_string());
         self.tally.words += 1;
         self.tally.accepted += usize::from(accepted);
+    }
+
+    /// Adds a word to be tried on a product of the expressions' machines,
+    /// which has nothing to do with the machine that is held.
+    pub fn product(&mut self, nesting: Nesting, expressions: &[&[u32]], labels: &[u32]) {
+        assert_eq!(expressions.len(), nesting.factors());
+        self.tally.products += 1;
+        let answer = match Verdict::on(expressions, labels) {
+            Ok(verdict) => {
+                self.tally.accepting += usize::from(verdict.accepts());
+                self.tally.too_large += usize::from(verdict.is_too_large());
+                verdict.line()
+            }
+            Err(fault) => {
+                self.tally.refused += 1;
+                fault_line(fault)
+            }
+        };
+        self.exchange(nesting as u32, &payload(expressions, labels), answer);
     }
 
     fn exchange(&mut self, kind: u32, words: &[u32], answer: String) {
@@ -101,8 +145,8 @@ impl Session {
     }
 
     /// What the machine holds now.
-    pub fn held(&self) -> Option<&Held> {
-        self.held.as_ref()
+    pub fn held(&self) -> Option<&Known> {
+        self.held.as_ref().map(|held| &held.known)
     }
 
     /// How many commands there are.
@@ -174,6 +218,10 @@ impl Session {
     }
 }
 
+fn fault_line(fault: Fault) -> String {
+    format!("fault 1 {} {}\n", fault.number, fault.place)
+}
+
 fn compare_exchanges(program: &Path, exchanges: &[&Exchange]) -> Result<(), Failure> {
     let input: Vec<u32> = exchanges
         .iter()
@@ -230,6 +278,28 @@ mod tests {
         );
         assert_eq!(session.exchanges[4].command, [2, 2, 3, 3]);
         assert_eq!(session.exchanges[6].basis, Some(3));
+    }
+
+    #[test]
+    fn a_product_leaves_the_machine_as_it_was() {
+        let mut session = Session::default();
+        let (a, b) = (letter(0), letter(1));
+        session.product(Nesting::Two, &[&[a], &[a, STAR]], &[0]);
+        session.attempt(&[0]);
+        session.read(&[b]);
+        session.product(Nesting::TwoAndOne, &[&[a], &[a, b], &[a]], &[0]);
+        session.product(Nesting::OneAndTwo, &[&[a], &[BAR], &[a]], &[0]);
+        session.product(Nesting::Two, &[&[a; 10], &[a; 10]], &[0; 10]);
+        session.attempt(&[1]);
+        assert_eq!(
+            answers(&session),
+            "both 4 yes\nno\nread 2\nboth 12 no\nfault 1 22 0\nboth 33 no\nyes\n"
+        );
+        assert_eq!(session.exchanges[0].command, [3, 6, 1, a, 2, a, STAR, 0]);
+        assert_eq!(session.exchanges[4].command[..2], [5, 7]);
+        let tally = session.tally();
+        assert_eq!((tally.products, tally.accepting), (4, 1));
+        assert_eq!((tally.too_large, tally.refused), (1, 1));
     }
 
     #[test]

@@ -2,8 +2,9 @@
 
 use crate::expression::{CLOSE, OPEN, STAR, letter};
 use crate::generate;
+use crate::known::Known;
 use crate::rng::Rng;
-use crate::session::{Held, Session};
+use crate::session::{Group, Session};
 
 /// A session of a random group goes on until it has so many commands.
 const COMMANDS: usize = 2_500;
@@ -11,25 +12,6 @@ const COMMANDS: usize = 2_500;
 /// The longest word that is tried outside of the group of long words: the
 /// work of membership grows with the third power.
 const LONGEST: usize = 40;
-
-/// Cases of one kind.
-pub struct Group {
-    /// What they are.
-    pub name: &'static str,
-    /// How many runs of the program they are spread over.
-    pub sessions: usize,
-    /// Makes the commands of one run.
-    fill: fn(&mut Rng, &mut Session),
-}
-
-impl Group {
-    /// The commands of one run of the program.
-    pub fn session(&self, seed: u64, index: usize) -> Session {
-        let mut session = Session::default();
-        (self.fill)(&mut Rng::of_case(seed, self.name, index), &mut session);
-        session
-    }
-}
 
 /// All groups.
 pub const GROUPS: [Group; 10] = [
@@ -102,7 +84,7 @@ fn nothing_read(rng: &mut Rng, session: &mut Session) {
 }
 
 /// An expression with a fault.
-fn refused(rng: &mut Rng) -> Vec<u32> {
+pub fn refused(rng: &mut Rng) -> Vec<u32> {
     loop {
         let words = generate::damaged(rng, 1..=6);
         if crate::reading::read(&words).is_err() {
@@ -216,7 +198,7 @@ fn read_and_attempt(rng: &mut Rng, session: &mut Session, make: impl FnOnce(&mut
 }
 
 /// Tries so many words that are likely to tell something about what is held.
-fn attempt_some(rng: &mut Rng, session: &mut Session, count: usize) {
+pub fn attempt_some(rng: &mut Rng, session: &mut Session, count: usize) {
     let words: Vec<Vec<u32>> = match session.held() {
         Some(held) => (0..count).map(|_| telling_word(rng, held)).collect(),
         None => vec![vec![], vec![0]],
@@ -242,27 +224,28 @@ fn attempt_all_short(session: &mut Session) {
 
 /// A member, a member with one label damaged, a short word over the labels, or
 /// one with a label that no expression has.
-fn telling_word(rng: &mut Rng, held: &Held) -> Vec<u32> {
+fn telling_word(rng: &mut Rng, known: &Known) -> Vec<u32> {
     match rng.below(20) {
         0 => Vec::new(),
-        1..=9 => member(rng, held),
+        1..=9 => member(rng, known),
         10..=14 => {
-            let word = member(rng, held);
-            changed(rng, held, &word)
+            let word = member(rng, known);
+            changed(rng, known, &word)
         }
-        15..=17 => short_word(rng, &held.labels, 6),
+        15..=17 => short_word(rng, &known.labels, 6),
         _ => {
-            let word = member(rng, held);
+            let word = member(rng, known);
             with_strange_label(rng, word)
         }
     }
 }
 
-fn member(rng: &mut Rng, held: &Held) -> Vec<u32> {
+/// A word of the language, not too long to be tried.
+pub fn member(rng: &mut Rng, known: &Known) -> Vec<u32> {
     let mut eagerness = rng.pick(&[20, 40, 60, 80, 95]);
     loop {
         let rounds = rng.within(1..=8);
-        let word = held.language.sample(rng, eagerness, rounds);
+        let word = known.language.sample(rng, eagerness, rounds);
         if word.len() <= LONGEST {
             return word;
         }
@@ -276,10 +259,10 @@ fn short_word(rng: &mut Rng, labels: &[u32], most: usize) -> Vec<u32> {
 }
 
 /// The word with one label changed, put in, taken out, or moved.
-fn changed(rng: &mut Rng, held: &Held, word: &[u32]) -> Vec<u32> {
+pub fn changed(rng: &mut Rng, known: &Known, word: &[u32]) -> Vec<u32> {
     let mut word = word.to_vec();
     let label = if rng.chance(80) {
-        rng.pick(&held.labels)
+        rng.pick(&known.labels)
     } else {
         rng.below(16) as u32
     };
@@ -299,7 +282,7 @@ fn changed(rng: &mut Rng, held: &Held, word: &[u32]) -> Vec<u32> {
 
 /// The word with a label above 15 in it. The label may have low bits that are
 /// right: a program that looks at four bits only would be taken in.
-fn with_strange_label(rng: &mut Rng, mut word: Vec<u32>) -> Vec<u32> {
+pub fn with_strange_label(rng: &mut Rng, mut word: Vec<u32>) -> Vec<u32> {
     let strange = [16, 17, 31, 32, 0xFFFF_FFFF, 0x8000_0001, letter(0), STAR];
     if word.is_empty() || rng.chance(30) {
         let place = rng.within(0..=word.len());

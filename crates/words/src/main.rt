@@ -1,7 +1,14 @@
-// words: tries words on the machines of expressions. Standard input is a stream of 32-bit words, low byte first, each command
-// a number, a count and that many words: 1 reads an expression into the machine, 2 asks whether the machine accepts a word.
+// words: tries words on the machines of expressions and on products of them. Standard input is a stream of 32-bit words, low byte
+// first, each command a number, a count and that many words: 1 reads an expression into the machine, 2 asks whether the machine
+// accepts a word, and 3 to 5 ask it of a product of machines of their own.
+mod product;
+
+use expression::fault::Fault;
 use expression::machine::Machine;
 use expression::machine::ask::MachineQuery;
+use product::Refusal;
+use product::Verdict;
+use product::VerdictDisplay;
 use query::Query;
 use query::accept;
 use std::alloc::Global;
@@ -11,6 +18,9 @@ use std::io::Write;
 
 const READ: u32 = 1;
 const ACCEPTS: u32 = 2;
+const BOTH: u32 = 3;
+const BOTH_AND_ONE: u32 = 4;
+const ONE_AND_BOTH: u32 = 5;
 
 fn main(rt: LibcRuntime) -> Result<(), AnyError> {
     rt.report(run(&rt))
@@ -54,18 +64,38 @@ fn answer_all(heap: Global, words: &[u32]) -> Result<String, AnyError> {
 
 fn answer(machine: &mut Machine, command: u32, words: &[u32], answers: &mut String) -> Result<(), AnyError> {
     match command {
-        READ => match machine.read(words) {
-            Ok(()) => {
-                let size = machine.size();
-                writeln!(answers, "read {size}")?;
-            }
-            Err(fault) => {
-                let (number, place) = (fault.cause.number(), fault.place);
-                writeln!(answers, "fault 1 {number} {place}")?;
-            }
-        },
+        READ => read(machine, words, answers)?,
         ACCEPTS => answers.push_str(if accept::accepts(machine, words) { "yes\n" } else { "no\n" })?,
-        _ => return Err("a command is 1 or 2".into()),
+        BOTH => tell(answers, product::of_two(words))?,
+        BOTH_AND_ONE => tell(answers, product::of_two_and_one(words))?,
+        ONE_AND_BOTH => tell(answers, product::of_one_and_two(words))?,
+        _ => return Err("a command is 1 to 5".into()),
     }
+    Ok(())
+}
+
+fn read(machine: &mut Machine, words: &[u32], answers: &mut String) -> Result<(), AnyError> {
+    match machine.read(words) {
+        Ok(()) => {
+            let size = machine.size();
+            writeln!(answers, "read {size}")?;
+        }
+        Err(fault) => tell_fault(answers, fault)?,
+    }
+    Ok(())
+}
+
+fn tell(answers: &mut String, verdict: Result<Verdict, Refusal>) -> Result<(), AnyError> {
+    match verdict {
+        Ok(verdict) => writeln!(answers, "{verdict}")?,
+        Err(Refusal::Expression(fault)) => tell_fault(answers, fault)?,
+        Err(Refusal::Cut) => return Err("the expressions of a command are cut".into()),
+    }
+    Ok(())
+}
+
+fn tell_fault(answers: &mut String, fault: Fault) -> Result<(), AnyError> {
+    let (number, place) = (fault.cause.number(), fault.place);
+    writeln!(answers, "fault 1 {number} {place}")?;
     Ok(())
 }
