@@ -17,9 +17,13 @@ use std::io::Read;
 use std::io::Write;
 
 const READ: u32 = 1;
+
 const ACCEPTS: u32 = 2;
+
 const BOTH: u32 = 3;
+
 const BOTH_AND_ONE: u32 = 4;
+
 const ONE_AND_BOTH: u32 = 5;
 
 fn main(rt: LibcRuntime) -> Result<(), AnyError> {
@@ -39,7 +43,12 @@ fn run(rt: &LibcRuntime) -> Result<(), AnyError> {
 fn words_of(heap: Global, bytes: &[u8]) -> Result<Vec<u32>, AnyError> {
     let mut words = Vec::new(heap);
     for i in 0..bytes.len() / 4 {
-        let [a, b, c, d] = [bytes[4 * i], bytes[4 * i + 1], bytes[4 * i + 2], bytes[4 * i + 3]];
+        let [a, b, c, d] = [
+            bytes[4 * i],
+            bytes[4 * i + 1],
+            bytes[4 * i + 2],
+            bytes[4 * i + 3],
+        ];
         words.push(u32::from_le_bytes([a, b, c, d]))?;
     }
     Ok(words)
@@ -62,10 +71,19 @@ fn answer_all(heap: Global, words: &[u32]) -> Result<String, AnyError> {
     Ok(answers)
 }
 
-fn answer(machine: &mut Machine, command: u32, words: &[u32], answers: &mut String) -> Result<(), AnyError> {
+fn answer(
+    machine: &mut Machine,
+    command: u32,
+    words: &[u32],
+    answers: &mut String,
+) -> Result<(), AnyError> {
     match command {
         READ => read(machine, words, answers)?,
-        ACCEPTS => answers.push_str(if accept::accepts(machine, words) { "yes\n" } else { "no\n" })?,
+        ACCEPTS => answers.push_str(if accept::accepts(machine, words) {
+            "yes\n"
+        } else {
+            "no\n"
+        })?,
         BOTH => tell(answers, product::of_two(words))?,
         BOTH_AND_ONE => tell(answers, product::of_two_and_one(words))?,
         ONE_AND_BOTH => tell(answers, product::of_one_and_two(words))?,

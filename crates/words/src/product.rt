@@ -60,27 +60,39 @@ impl<'a> Payload<'a> {
 }
 
 /// Tries a word on the product of two machines.
-pub fn of_two(words: &[u32]) -> Result<Verdict, Refusal> {
+pub(crate) fn of_two(words: &[u32]) -> Result<Verdict, Refusal> {
     let mut payload = Payload { rest: words };
     let (a, b) = (payload.expression()?, payload.expression()?);
-    let both = Both::new(machine_of(a)?, machine_of(b)?);
+    let both = pair(machine_of(a)?, machine_of(b)?);
     Ok(try_word(&both, payload.rest))
 }
 
 /// Tries a word on the product of the first two machines' product and the third.
-pub fn of_two_and_one(words: &[u32]) -> Result<Verdict, Refusal> {
+pub(crate) fn of_two_and_one(words: &[u32]) -> Result<Verdict, Refusal> {
     let mut payload = Payload { rest: words };
-    let (a, b, c) = (payload.expression()?, payload.expression()?, payload.expression()?);
-    let both = Both::new(Both::new(machine_of(a)?, machine_of(b)?), machine_of(c)?);
+    let (a, b, c) = (
+        payload.expression()?,
+        payload.expression()?,
+        payload.expression()?,
+    );
+    let both = pair(pair(machine_of(a)?, machine_of(b)?), machine_of(c)?);
     Ok(try_word(&both, payload.rest))
 }
 
 /// Tries a word on the product of the first machine and the other two's product.
-pub fn of_one_and_two(words: &[u32]) -> Result<Verdict, Refusal> {
+pub(crate) fn of_one_and_two(words: &[u32]) -> Result<Verdict, Refusal> {
     let mut payload = Payload { rest: words };
-    let (a, b, c) = (payload.expression()?, payload.expression()?, payload.expression()?);
-    let both = Both::new(machine_of(a)?, Both::new(machine_of(b)?, machine_of(c)?));
+    let (a, b, c) = (
+        payload.expression()?,
+        payload.expression()?,
+        payload.expression()?,
+    );
+    let both = pair(machine_of(a)?, pair(machine_of(b)?, machine_of(c)?));
     Ok(try_word(&both, payload.rest))
+}
+
+fn pair<A: Query, B: Query>(first: A, second: B) -> Both<A, B> {
+    Both { first, second }
 }
 
 fn machine_of(words: &[u32]) -> Result<Machine, Fault> {
@@ -90,5 +102,8 @@ fn machine_of(words: &[u32]) -> Result<Machine, Fault> {
 }
 
 fn try_word<Q: Query>(query: &Q, word: &[u32]) -> Verdict {
-    Verdict { size: query.size(), accepted: accept::accepts(query, word) }
+    Verdict {
+        size: query.size(),
+        accepted: accept::accepts(query, word),
+    }
 }
