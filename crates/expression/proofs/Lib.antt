@@ -2,6 +2,7 @@ pub mod Machines
 pub mod Scans
 pub mod Progress
 pub mod Fragments
+pub mod Positions
 pub mod Readings
 pub mod Accepting
 pub mod Unique

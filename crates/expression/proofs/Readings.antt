@@ -27,10 +27,11 @@ use Rattle.expression.specs.Grammar.{Expression, Sequence, Piece, Atom, Repeat
 use Rattle.expression.specs.Language.{Tree, Language, letter, either, then, star, plus, maybe}
 use Rattle.expression.specs.Machines.{linked, labelOf}
 use Rattle.expression.specs.Parts.{Within, Either, Then, optional}
-use Rattle.expression.specs.Readers.{left, scanAt, ahead, labelsAt, Went, Kept, Spells, ReadPart, Grown, RepeatedPart, Read, Repeated, Peeked, Stops, beginsPiece, afterPiece, afterSequence}
+use Rattle.expression.specs.Readers.{left, scanAt, ahead, labelsAt, Went, Kept, Spells, Exact, ReadPart, Grown, RepeatedPart, Read, Repeated, Peeked, Stops, beginsPiece, afterPiece, afterSequence}
 use Rattle.expression.specs.Scan.{objection, onward, spoken, verdict, judged}
 use Rattle.expression.specs.Symbols.{symbolOf}
 use Rattle.expression.proofs.Fragments.{Agree, Linked, fragment-kept, fragment-letter, fragment-either, fragment-then, fragment-plus, fragment-star, fragment-maybe}
+use Rattle.expression.proofs.Positions.{exact-letter, exact-either, exact-then, exact-star, exact-plus, exact-maybe}
 use Rattle.expression.proofs.Progress.{Next, went-next, went-still, went-on, went-letter, alone}
 
 -- The reader after one word, as deep as before, and with another machine.
@@ -97,10 +98,15 @@ read-letter r m l own k peek room next letters labels follow is = record {
       subst (λ n. Fragment (linked m) (labelOf m) (r .machine .letters) n (record { nullable = false; first = own; last = own }) (λ w. w ≡ l ∷ [])) (sym letters)
       (fragment-letter (linked m) (labelOf m) (r .machine .letters) k l (record { nullable = false; first = own; last = own }) next refl (alone own k is) (alone own k is) there there
       (ap (λ xs. getD xs k 0) labels ∙ getD-set-same (r .machine .labels) k l 0 (omega (arith, r .machine .names))) still);
+  exact = exact-letter m (r .machine .letters) k l own next letters own-is still;
 }
   where
     there : member own k ≡ true
     there = is k ∙ or-right (member 0 k) _ (and-from _ _ (lt-ltb k 32 (omega arith)) (eq-eqb k k refl))
+
+    own-is : (x : ℕ) → member own x ≡ eqb x k
+    own-is x =
+        is x ∙ ap (λ (b : Bool). b || (ltb k 32 && eqb x k)) (member-none x) ∙ ap (λ (b : Bool). b && eqb x k) (lt-ltb k 32 (omega arith))
 
     still : (t : ℕ) → linked m k t ≡ false
     still t =
@@ -120,6 +126,7 @@ read-group r r1 p open-word room inner close-word = record {
       subst (λ ws. Atom ws (left (closed r1)) (inner .tree)) (sym (open-word .1))
       (group-atom (open-word .2) (subst (λ ws. Expression (left (opened r)) ws (inner .tree)) (close-word .1) (inner .derived)) (close-word .2));
   fragment = inner .fragment;
+  exact = inner .exact;
 }
 
 -- A letter or a group, with its repeats.
@@ -134,6 +141,7 @@ read-piece r r1 r2 p q atom repeats =
       tree = grown .tree;
       derived = piece (atom .derived) (grown .derived);
       fragment = grown .fragment (r .machine .letters) (atom .fragment);
+      exact = grown .exact (r .machine .letters) (atom .exact);
     }
 
 -- What is of one level is of the next.
@@ -146,6 +154,7 @@ read-as L M up r r′ p read = record {
   tree = read .tree;
   derived = up _ _ _ (read .derived);
   fragment = read .fragment;
+  exact = read .exact;
 }
 
 -- A letter or an open comes next, at which a piece may begin whether one must or not.
@@ -218,6 +227,8 @@ read-sequence r r1 r2 m p q x front begins back links joined = record {
       (relabel (r2 .machine) m (linked m) (r .machine .letters) (r2 .machine .letters) x _ (links .labels)
       (fragment-then (front .went .letters) (back .went .letters)
       (spells-kept (r1 .machine) (r2 .machine) (r .machine .letters) p (front .tree) (back .kept) (front .fragment)) (back .fragment) (record { moves = links .follow }) joined));
+  exact =
+      exact-then (r1 .machine) (r2 .machine) (r .machine .letters) p q (front .tree) (back .tree) (front .exact) (back .exact) (λ y z h. back .kept .moves y z h) m x (links .letters) (links .follow) joined;
 }
 
 -- A sequence, a bar and an expression.
@@ -232,6 +243,8 @@ read-expression r r1 r2 p q x left-part bar-word right-part joined = record {
   fragment =
       fragment-either (left-part .went .letters) (right-part .went .letters)
       (spells-kept (r1 .machine) (r2 .machine) (r .machine .letters) p (left-part .tree) (right-part .kept) (left-part .fragment)) (right-part .fragment) joined;
+  exact =
+      exact-either (r1 .machine) (r2 .machine) (r .machine .letters) p q (left-part .tree) (right-part .tree) (left-part .exact) (right-part .exact) (λ y z h. right-part .kept .moves y z h) x joined;
 }
 
 -- No repeat more.
@@ -240,7 +253,7 @@ repeated-none r p inside = record {
   went = went-still false r r inside refl refl refl refl refl;
   depth = refl;
   kept = λ lo w. kept-self lo (r .machine);
-  grown = λ s. record { tree = s; derived = done; fragment = λ lo f. f };
+  grown = λ s. record { tree = s; derived = done; fragment = λ lo f. f; exact = λ lo x. x };
 }
 
 -- What one repeat does to a part: in the machine m it is p′, of tree T s where it was of tree s.
@@ -253,6 +266,7 @@ pub record Repeat (r : Reader) (m : Machine) (y : Symbol) (T : Tree → Tree) (p
   pub labels : m .labels ≡ r .machine .labels
   pub kept : (lo : ℕ) → Within lo (r .machine .letters) p → Kept lo (r .machine) m × Within lo (r .machine .letters) p′
   pub grow : (s : Tree) (lo : ℕ) → Spells (r .machine) lo p s → Fragment (linked m) (labelOf (r .machine)) lo (r .machine .letters) p′ (Language (T s))
+  pub exact : (s : Tree) (lo : ℕ) → Exact (r .machine) lo p s → Exact m lo p′ (T s)
   pub derive : {w : ℕ} {ws rest : List ℕ} {s t : Tree} → symbolOf w ≡ Some y → Repeats ws rest (T s) t → Repeats (w ∷ ws) rest s t
 
 repeated-start : (r : Reader) (m : Machine) (y : Symbol) (T : Tree → Tree) (p p′ : Part) → Repeat r m y T p p′ → Went false r false (stepped (relinked r m))
@@ -274,6 +288,7 @@ repeated-next r r2 m y T p p′ q one rest = record {
             g .fragment lo
             (subst (λ n. Fragment (linked m) (labelOf m) lo n p′ (Language (T s))) (sym (one .letters))
             (relabel (r .machine) m (linked m) lo (r .machine .letters) p′ (Language (T s)) (one .labels) (one .grow s lo f)));
+        exact = λ lo x. g .exact lo (one .exact s lo x);
       };
 }
 
@@ -288,6 +303,7 @@ repeat-star r m p next links = record {
   labels = links .labels;
   kept = λ lo w. (kept-link links (λ s e. w .last s e .0), record { first = w .first; last = w .last });
   grow = λ s lo f. fragment-star f (record { moves = links .follow });
+  exact = λ s lo x. exact-star (r .machine) m lo p s x (links .letters) (links .follow);
   derive = star-next;
 }
 
@@ -301,6 +317,7 @@ repeat-plus r m p next links = record {
   labels = links .labels;
   kept = λ lo w. (kept-link links (λ s e. w .last s e .0), w);
   grow = λ s lo f. fragment-plus f (record { moves = links .follow });
+  exact = λ s lo x. exact-plus (r .machine) m lo p s x (links .letters) (links .follow);
   derive = plus-next;
 }
 
@@ -314,6 +331,7 @@ repeat-maybe r p next = record {
   labels = refl;
   kept = λ lo w. (kept-self lo (r .machine), record { first = w .first; last = w .last });
   grow = λ s lo f. fragment-maybe f;
+  exact = λ s lo x. exact-maybe (r .machine) lo p s x;
   derive = maybe-next;
 }
 

@@ -1,5 +1,5 @@
 -- An expression read whole: its fault, and the labels of its states.
-use mathlib.Core.Bool.{Bool, true, false, cond, _||_}
+use mathlib.Core.Bool.{Bool, true, false, cond, _&&_, _||_}
 use mathlib.Core.List.{List, [], _∷_, _++_, append-nil}
 use mathlib.Core.Logic.{_⊎_, inl, inr, ⊎-elim}
 use mathlib.Core.Path.{_≡_, refl, sym, ap, subst, _∙_}
@@ -10,7 +10,7 @@ use lib.Dec.{eqb, ltb}
 use lib.ListN.{length, take, drop, getD, length-drop}
 use lib.Seq.{getD-take, length-take-le}
 use Rattle.std.proofs.shelf.Lists.{drop-all, take-more}
-use Rattle.std.proofs.shelf.Tests.{eq-eqb, ne-eqb, lt-ltb, le-ltb, false≢true, or-from, or-left, or-right}
+use Rattle.std.proofs.shelf.Tests.{eq-eqb, ne-eqb, lt-ltb, le-ltb, false≢true, or-from, or-left, or-right, cases-lt, cases-bool}
 use Rattle.std.specs.declared.option.Option.the-variants.{Some, None}
 use Rattle.std.specs.declared.result.Result.the-variants.{Ok, Err}
 use Rattle.expression.specs.declared.fault.Cause.{Cause}
@@ -23,13 +23,15 @@ use Rattle.expression.specs.declared.symbol.Symbol.{Symbol}
 use Rattle.expression.specs.declared.symbol.Symbol.the-variants.{Letter, Open, Close, Bar, Star, Plus, Maybe}
 use Rattle.expression.specs.Grammar.{Expression, HasTree}
 use Rattle.expression.specs.Machines.{Empty, linked, labelOf}
-use Rattle.expression.specs.Readers.{left, scanAt, ahead, labelsAt, ReadPart, Stops, afterExpression}
+use Rattle.expression.specs.Readers.{left, scanAt, ahead, labelsAt, Exact, ReadPart, Stops, afterExpression}
 use Rattle.expression.specs.Fragments.{Fragment}
 use Rattle.expression.specs.Language.{Tree, Language}
+use Rattle.expression.specs.Positions.{mayBeEmpty, comesFirst, comesLast, comesAfter}
 use Rattle.expression.specs.Reading.{Fills, Why, Limited, Refused}
 use Rattle.expression.specs.Scan.{Scan, verdict, start, lettersOf, unless, judged, onward, objection}
 use Rattle.expression.specs.Symbols.{symbolOf}
 use Rattle.expression.proofs.Accepting.{Finished, accepts-says, accepts-takes}
+use Rattle.expression.proofs.Positions.{after-out}
 use Rattle.expression.proofs.Refusals.{isLimit, no-tree, too-many, too-deep, not-count}
 use Rattle.expression.proofs.Scans.{verdict-stop, verdict-on, verdict-none, fault-is}
 use Rattle.expression.proofs.Trees.{some-word, no-words}
@@ -101,18 +103,37 @@ module _ (ws : List ℕ) (r : Reader) (fresh : Fresh ws r) where
       whole-fragment : Fragment (linked (r′ .machine)) (labelOf (r′ .machine)) 0 (r′ .machine .letters) p (Language (read .tree))
       whole-fragment = subst (λ n. Fragment (linked (r′ .machine)) (labelOf (r′ .machine)) n (r′ .machine .letters) p (Language (read .tree))) no-letters (read .fragment)
 
+      whole-exact : Exact (r′ .machine) 0 p (read .tree)
+      whole-exact = subst (λ n. Exact (r′ .machine) n p (read .tree)) no-letters (read .exact)
+
+      no-link : (s q : ℕ) → r′ .machine .letters < s → linked (r′ .machine) s q ≡ false
+      no-link s q above = ⊎-elim (λ e. absurd (let z = r′ .machine .from s q e in omega arith)) (λ e. e) (cases-bool (linked (r′ .machine) s q))
+
       pub fills : (m : Machine) → m .letters ≡ r′ .machine .letters → Finished (r′ .machine) m p → Fills ws m
       fills m letters finished = record {
         tree = (read .tree, whole-tree);
         says = λ t has w a. subst (λ x. Language x w) (one-tree ws (read .tree) t whole-tree has) (accepts-says whole-fragment finished w a);
         takes = λ t has w l. accepts-takes whole-fragment finished w (subst (λ x. Language x w) (one-tree ws t (read .tree) has whole-tree) l);
         some = let word = some-word (read .tree) in (word .0, accepts-takes whole-fragment finished (word .0) (word .1));
+        starts = λ t has p. finished .start p ∙ whole-exact .first p ∙ ap (λ x. comesFirst x 0 p) (one-tree ws (read .tree) t whole-tree has);
+        follows = λ t has s p some. finished .follow s p some ∙ moves s p some ∙ ap (λ x. comesAfter x 0 s p) (one-tree ws (read .tree) t whole-tree has);
+        ends = λ t has s.
+            finished .ends s ∙ (λ i. whole-exact .last s i || (whole-exact .nullable i && eqb s 0))
+            ∙ ap (λ x. comesLast x 0 s || (mayBeEmpty x && eqb s 0)) (one-tree ws (read .tree) t whole-tree has);
         size = omega (arith, letters, long);
         labels = λ t h.
             ap (λ us. getD us (t + 1) 0) (finished .labels) ∙ sym (getD-take (r′ .machine .letters + 1) (r′ .machine .labels) (t + 1) 0 (omega (arith, long)))
             ∙ ap (λ us. getD us (t + 1) 0) named ∙ ap (λ n. getD (0 ∷ lettersOf ws) n 0) (add-one t);
       }
         where
+          -- No move leads from a state that is not there.
+          moves : (s p : ℕ) → 1 ≤ s → linked (r′ .machine) s p ≡ comesAfter (read .tree) 0 s p
+          moves s p some =
+              ⊎-elim
+              (λ (above : r′ .machine .letters < s).
+              no-link s p above ∙ sym (after-out (read .tree) 0 s p (λ x. omega (arith, x .1, whole-exact .count))))
+              (λ (within : s ≤ r′ .machine .letters). whole-exact .after s p some within) (cases-lt (r′ .machine .letters) s)
+
           long : r′ .machine .letters ≡ length (lettersOf ws)
           long = omega (arith, ap length named, length-take-le (r′ .machine .letters + 1) (r′ .machine .labels) (omega (arith, r′ .machine .names, r′ .machine .few)))
 

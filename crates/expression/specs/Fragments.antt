@@ -1,4 +1,4 @@
--- A part of the position automaton, and the words that lead through it.
+-- A part of the position automaton, and the words that lead through it. Only the contracts of private functions cite this file.
 use mathlib.Core.Bool.{Bool, true}
 use mathlib.Core.List.{List, [], _∷_}
 use mathlib.Core.Path.{_≡_}

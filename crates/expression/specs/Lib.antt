@@ -1,6 +1,7 @@
 pub mod Symbols
 pub mod Language
 pub mod Grammar
+pub mod Positions
 pub mod Faults
 pub mod Scan
 pub mod Machines

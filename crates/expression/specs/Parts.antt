@@ -1,4 +1,4 @@
--- What the readers tell each other of a part of an expression that has been read.
+-- What the readers tell each other of a part of an expression that has been read. Only the contracts of private functions cite this file.
 use mathlib.Core.Bool.{Bool, true, _&&_, _||_}
 use mathlib.Core.Path.{_≡_}
 use Prim.Native.Nat.{ℕ, _≤_, _<_}

@@ -1,4 +1,4 @@
--- What the readers promise each other.
+-- What the readers promise each other. Only the contracts of private functions cite this file.
 use mathlib.Core.Bool.{Bool, true, false}
 use mathlib.Core.List.{List, [], _∷_, _++_}
 use mathlib.Core.Logic.{_⊎_}
@@ -21,7 +21,9 @@ use Rattle.expression.specs.Language.{Tree, Language}
 use Rattle.expression.specs.Machines.{linked, labelOf}
 use Rattle.expression.specs.Scan.{Scan, verdict, lettersOf}
 use Rattle.expression.specs.Symbols.{symbolOf}
+use Rattle.masks.specs.Members.{member}
 use Rattle.expression.specs.Parts.{Within}
+use Rattle.expression.specs.Positions.{letterCount, mayBeEmpty, comesFirst, comesLast, comesAfter}
 
 -- The words that are still to be read.
 abbrev pub left : Reader → List ℕ
@@ -58,6 +60,14 @@ pub record Kept (k : ℕ) (m m′ : Machine) : Type 0 where
 abbrev pub Spells : Machine → ℕ → Part → Tree → Type 0
 Spells m lo p t = Fragment (linked m) (labelOf m) lo (m .letters) p (Language t)
 
+-- The part's sets and the moves from its letters are those of the tree's positions.
+pub record Exact (m : Machine) (lo : ℕ) (p : Part) (t : Tree) : Type 0 where
+  pub count : m .letters ≡ lo + letterCount t
+  pub nullable : p .nullable ≡ mayBeEmpty t
+  pub first : (x : ℕ) → member (p .first) x ≡ comesFirst t lo x
+  pub last : (x : ℕ) → member (p .last) x ≡ comesLast t lo x
+  pub after : (s x : ℕ) → lo < s → s ≤ m .letters → linked m s x ≡ comesAfter t lo s x
+
 -- A reader has read a part that begins at r and ends at r′, of this level of the grammar.
 pub record ReadPart (Level : List ℕ → List ℕ → Tree → Type 0) (r r′ : Reader) (p : Part) : Type 0 where
   pub went : Went true r false r′
@@ -67,6 +77,7 @@ pub record ReadPart (Level : List ℕ → List ℕ → Tree → Type 0) (r r′ 
   pub tree : Tree
   pub derived : Level (left r) (left r′) tree
   pub fragment : Spells (r′ .machine) (r .machine .letters) p tree
+  pub exact : Exact (r′ .machine) (r .machine .letters) p tree
 
 -- What a reader answers: a part, or the fault that was to come.
 abbrev pub Read : (List ℕ → List ℕ → Tree → Type 0) → Reader → Reader → Result Part Fault → Type 0
@@ -78,6 +89,7 @@ pub record Grown (p : Part) (r r′ : Reader) (q : Part) (s : Tree) : Type 0 whe
   pub tree : Tree
   pub derived : Repeats (left r) (left r′) s tree
   pub fragment : (lo : ℕ) → Spells (r .machine) lo p s → Spells (r′ .machine) lo q tree
+  pub exact : (lo : ℕ) → Exact (r .machine) lo p s → Exact (r′ .machine) lo q tree
 
 -- The reader of repeats has made q of the part p, with no letter more.
 pub record RepeatedPart (p : Part) (r r′ : Reader) (q : Part) : Type 0 where

@@ -1,9 +1,10 @@
 -- What reading an expression answers.
-use mathlib.Core.Bool.{Bool}
+use mathlib.Core.Bool.{Bool, _&&_, _||_}
 use mathlib.Core.List.{List}
 use mathlib.Core.Logic.{_⊎_}
 use mathlib.Core.Path.{_≡_}
 use Prim.Native.Nat.{ℕ, _+_, _≤_, _<_}
+use lib.Dec.{eqb}
 use lib.ListN.{length, getD}
 use Rattle.std.specs.declared.option.Option.the-variants.{Some, None}
 use Rattle.std.specs.declared.result.Result.{Result}
@@ -16,17 +17,22 @@ use Rattle.expression.specs.declared.fault.Fault.{Fault}
 use Rattle.expression.specs.declared.machine.Machine.{Machine}
 use Rattle.expression.specs.Grammar.{HasTree, Denotes}
 use Rattle.expression.specs.Language.{Tree, Language}
-use Rattle.expression.specs.Machines.{machineMeaning, labelOf}
+use Rattle.expression.specs.Machines.{machineMeaning, linked, labelOf}
+use Rattle.expression.specs.Positions.{mayBeEmpty, comesFirst, comesLast, comesAfter}
 use Rattle.expression.specs.Scan.{readingFault, verdict, start, lettersOf, Shallow, mostWords, mostLetters}
 
 -- The machine is the expression's. The words have a tree; whatever tree the grammar gives them, the machine accepts a word if and only if
 -- the tree's language has it; and it accepts some word. It is the position automaton: there is a state for each letter of the words besides
--- the start, and state t has the label of the t-th letter from the left.
+-- the start; state t has the label of the t-th letter from the left; moves lead from the start to the letters that may come first, and from a
+-- letter to those that may come directly after it; and the letters that may come last accept, with the start where nothing will do.
 pub record Fills (ws : List ℕ) (m : Machine) : Type 0 where
   pub tree : (t : Tree) × HasTree ws t
   pub says : (t : Tree) → HasTree ws t → (w : List ℕ) → Accepts (machineMeaning m) w → Language t w
   pub takes : (t : Tree) → HasTree ws t → (w : List ℕ) → Language t w → Accepts (machineMeaning m) w
   pub some : (w : List ℕ) × Accepts (machineMeaning m) w
+  pub starts : (t : Tree) → HasTree ws t → (p : ℕ) → linked m 0 p ≡ comesFirst t 0 p
+  pub follows : (t : Tree) → HasTree ws t → (s p : ℕ) → 1 ≤ s → linked m s p ≡ comesAfter t 0 s p
+  pub ends : (t : Tree) → HasTree ws t → (s : ℕ) → machineMeaning m .accepting s ≡ (comesLast t 0 s || (mayBeEmpty t && eqb s 0))
   pub size : machineMeaning m .size ≡ length (lettersOf ws) + 1
   pub labels : (t : ℕ) → t < length (lettersOf ws) → labelOf m (t + 1) ≡ getD (lettersOf ws) t 0
 
