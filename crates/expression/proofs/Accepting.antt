@@ -1,8 +1,7 @@
 -- The machine of a whole expression accepts just the words that lead through it.
-use Rattle.std.proofs.Common.{◌≡◌, ℕ, ◌<◌, ◌≤◌, Bool, true, false, ◌&&◌, ◌||◌, eqb, ◌⊎◌, List, [], ◌∷◌, get_or, sym, refl, ap, ◌∙◌, subst, inl, inr, ⊎_elim, arith}
+use Rattle.std.proofs.Common.{◌≡◌, ℕ, ◌<◌, ◌≤◌, true, List, [], ◌∷◌, get_or, sym, refl, ap, ◌∙◌, subst, ⊎_elim, arith}
 use Rattle.std.proofs.lemmas.Bool.{or_cases, or_left, or_right, and_parts, and_from, eqb-true, eq-eqb}
 use Rattle.masks.specs.Members.{member}
-use Rattle.query.specs.Meaning.{Meaning}
 use Rattle.query.specs.Words.{Leads, Accepts}
 use Rattle.expression.specs.declared.machine.Machine.{Machine}
 use Rattle.expression.specs.declared.part.Part.{Part}

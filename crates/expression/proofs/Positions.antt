@@ -1,5 +1,5 @@
 -- The machine's sets are those of the tree's positions, construction by construction.
-use Rattle.std.proofs.Common.{◌≡◌, ℕ, ◌+◌, ◌<◌, ◌≤◌, Bool, true, false, ◌&&◌, ◌||◌, eqb, ◌⊎◌, sym, refl, ap, ◌∙◌, subst, inl, inr, ⊎_elim, arith}
+use Rattle.std.proofs.Common.{◌≡◌, ℕ, ◌+◌, ◌<◌, ◌≤◌, Bool, true, false, ◌&&◌, ◌||◌, eqb, sym, refl, ap, ◌∙◌, subst, ⊎_elim, arith}
 use Rattle.std.proofs.lemmas.Bool.{cases_lt, cases_Bool, or_cases, and_parts, eqb-true, false≢true}
 use Rattle.masks.specs.Members.{member}
 use Rattle.expression.specs.declared.machine.Machine.{Machine}
@@ -7,7 +7,7 @@ use Rattle.expression.specs.declared.part.Part.{Part}
 use Rattle.expression.specs.Language.{Tree, letter, either, then, star, plus, maybe}
 use Rattle.expression.specs.Machines.{linked}
 use Rattle.expression.specs.Parts.{Either, Then, optional}
-use Rattle.expression.specs.Positions.{letter_count, may_be_empty, comes_first, comes_last, comes_after}
+use Rattle.expression.specs.Positions.{letter_count, comes_first, comes_last, comes_after}
 use Rattle.expression.specs.Readers.{Exact}
 
 -- Positions of a tree lie after those before it, and within its letters.

@@ -1,23 +1,17 @@
 -- How a reader goes on over the words, and what it may then promise.
-use Rattle.std.proofs.Common.{◌≡◌, ℕ, ◌+◌, ◌<◌, ◌≤◌, Bool, true, false, cond, ◌&&◌, ◌||◌, eqb, ltb, ◌⊎◌, List, [], ◌∷◌, ◌++◌, length, take, drop, set, Some, None, Ok, Err, Option, sym, refl, ap, ◌∙◌, subst, inl, inr, ⊎_elim, append_assoc, arith}
+use Rattle.std.proofs.Common.{◌≡◌, ℕ, ◌+◌, ◌<◌, ◌≤◌, Bool, true, false, ltb, [], ◌∷◌, ◌++◌, length, take, drop, set, Some, None, Ok, sym, ap, ◌∙◌, ⊎_elim, append_assoc, arith}
 use Rattle.std.proofs.lemmas.List.{take_more_set}
 use Rattle.std.proofs.lemmas.Bool.{or_cases, and_parts, eqb-true, both_ways, cond-true, lt-ltb}
 use Rattle.std.proofs.lemmas.Bool.Decides.{nat_tests}
 use Rattle.masks.specs.Members.{member, with_member}
 use Rattle.masks.proofs.Laws.{member_none}
-use Rattle.expression.specs.declared.fault.Cause.{Cause}
-use Rattle.expression.specs.declared.fault.Cause.TheVariants.{NoPiece, Unfinished}
-use Rattle.expression.specs.declared.fault.Fault.{Fault}
-use Rattle.expression.specs.declared.machine.Machine.{Machine}
-use Rattle.expression.specs.declared.part.Part.{Part}
 use Rattle.expression.specs.declared.reader.Reader.{Reader}
 use Rattle.expression.specs.declared.symbol.Symbol.{Symbol}
-use Rattle.expression.specs.declared.symbol.Symbol.TheVariants.{Letter, Open, Close, Bar, Star, Plus, Maybe}
-use Rattle.expression.specs.Parts.{Within, Either, Then, optional}
-use Rattle.expression.specs.Readers.{left, scan_at, ahead, labels_at, Went, ReadPart, Peeked, Stops, after_piece, after_sequence, after_expression}
-use Rattle.expression.specs.Scan.{Scan, verdict, objection, onward, letters_of, spoken, unless}
+use Rattle.expression.specs.declared.symbol.Symbol.TheVariants.{Letter}
+use Rattle.expression.specs.Readers.{left, scan_at, ahead, labels_at, Went, Peeked}
+use Rattle.expression.specs.Scan.{verdict, objection, onward, letters_of, spoken}
 use Rattle.expression.specs.Symbols.{symbol_of}
-use Rattle.expression.proofs.Scans.{verdict_stop, verdict_on, letters_on, fault_is}
+use Rattle.expression.proofs.Scans.{verdict_on, letters_on}
 
 -- One symbol on: the words are the same, and the place is the next.
 pub record Next (r r' : Reader) : Type 0 where

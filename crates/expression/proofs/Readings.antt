@@ -1,10 +1,9 @@
 -- What each reader has read: how the parts of an expression come together, in the grammar and in the machine.
-use Rattle.std.proofs.Common.{◌≡◌, ℕ, ◌+◌, ◌-◌, ◌<◌, ◌≤◌, Bool, true, false, cond, ◌&&◌, ◌||◌, eqb, ltb, ◌⊎◌, List, [], ◌∷◌, ◌++◌, length, get_or, drop, set, Some, None, Ok, Err, Option, Result, sym, refl, ap, ◌∙◌, subst, inl, inr, ⊎_elim, arith}
+use Rattle.std.proofs.Common.{◌≡◌, ℕ, ◌+◌, ◌-◌, ◌<◌, ◌≤◌, Bool, true, false, ◌&&◌, ◌||◌, eqb, ltb, ◌⊎◌, List, [], ◌∷◌, length, get_or, drop, set, Some, None, Ok, Err, Option, Result, sym, refl, ap, ◌∙◌, subst, inl, inr, ⊎_elim, arith}
 use Rattle.std.proofs.lemmas.List.{get_or-set_same, get_or-set_other}
-use Rattle.std.proofs.lemmas.Bool.{or_cases, or_right, and_parts, and_from, both_ways, false≢true, cases_Bool, cond-false, cond-true, ne_eqb, eq-eqb, lt-ltb}
+use Rattle.std.proofs.lemmas.Bool.{or_right, and_from, false≢true, cases_Bool, cond-false, cond-true, ne_eqb, eq-eqb, lt-ltb}
 use Rattle.masks.specs.Members.{member, with_member}
 use Rattle.masks.proofs.Laws.{member_none}
-use Rattle.expression.specs.declared.fault.Cause.TheVariants.{NoPiece, Unfinished}
 use Rattle.expression.specs.declared.fault.Fault.{Fault}
 use Rattle.expression.specs.declared.machine.Machine.{Machine}
 use Rattle.expression.specs.declared.part.Part.{Part}
@@ -12,16 +11,16 @@ use Rattle.expression.specs.declared.reader.Reader.{Reader}
 use Rattle.expression.specs.declared.symbol.Symbol.{Symbol}
 use Rattle.expression.specs.declared.symbol.Symbol.TheVariants.{Letter, Open, Close, Bar, Star, Plus, Maybe}
 use Rattle.expression.specs.Fragments.{Fragment}
-use Rattle.expression.specs.Grammar.{Expression, Sequence, Piece, Atom, Repeats, last_sequence, bar_next, last_piece, piece_next, piece, letter_atom, group_atom, done, star_next, plus_next, maybe_next}
+use Rattle.expression.specs.Grammar.{Expression, Sequence, Piece, Atom, Repeats, bar_next, piece_next, piece, letter_atom, group_atom, done, star_next, plus_next, maybe_next}
 use Rattle.expression.specs.Language.{Tree, Language, letter, either, then, star, plus, maybe}
 use Rattle.expression.specs.Machines.{linked, label_of}
 use Rattle.expression.specs.Parts.{Within, Either, Then, optional}
-use Rattle.expression.specs.Readers.{left, scan_at, ahead, labels_at, Went, Kept, Spells, Exact, ReadPart, Grown, RepeatedPart, Read, Repeated, Peeked, Stops, begins_piece, after_piece, after_sequence}
+use Rattle.expression.specs.Readers.{left, scan_at, ahead, Went, Kept, Spells, Exact, ReadPart, RepeatedPart, Read, Repeated, Peeked, Stops, begins_piece, after_piece, after_sequence}
 use Rattle.expression.specs.Scan.{objection, onward, spoken, verdict, judged}
 use Rattle.expression.specs.Symbols.{symbol_of}
-use Rattle.expression.proofs.Fragments.{Agree, Linked, fragment_kept, fragment_letter, fragment_either, fragment_then, fragment_plus, fragment_star, fragment_maybe}
+use Rattle.expression.proofs.Fragments.{fragment_kept, fragment_letter, fragment_either, fragment_then, fragment_plus, fragment_star, fragment_maybe}
 use Rattle.expression.proofs.Positions.{exact_letter, exact_either, exact_then, exact_star, exact_plus, exact_maybe}
-use Rattle.expression.proofs.Progress.{Next, went_next, went_still, went_on, went_letter, alone}
+use Rattle.expression.proofs.Progress.{went_next, went_still, went_on, went_letter, alone}
 
 -- The reader after one word, as deep as before, and with another machine.
 abbrev pub stepped : Reader → Reader

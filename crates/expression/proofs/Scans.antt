@@ -1,10 +1,9 @@
 -- How the pass over the words goes on, one word after the other.
-use Rattle.std.proofs.Common.{◌≡◌, ℕ, suc, ◌+◌, ◌<◌, ◌≤◌, Bool, true, false, cond, ◌||◌, List, [], ◌∷◌, ◌++◌, length, drop, Some, None, Option, sym, refl, ap, ◌∙◌, subst, arith}
+use Rattle.std.proofs.Common.{◌≡◌, ℕ, ◌+◌, List, ◌∷◌, ◌++◌, Some, None, ap, ◌∙◌}
 use Rattle.expression.specs.declared.fault.Cause.{Cause}
-use Rattle.expression.specs.declared.fault.Cause.TheVariants.{WordCount, NotAWord, NoPiece, TooManyLetters, TooDeep, Unfinished}
+use Rattle.expression.specs.declared.fault.Cause.TheVariants.{NotAWord}
 use Rattle.expression.specs.declared.fault.Fault.{Fault}
 use Rattle.expression.specs.declared.symbol.Symbol.{Symbol}
-use Rattle.expression.specs.declared.symbol.Symbol.TheVariants.{Letter, Open, Close, Bar, Star, Plus, Maybe}
 use Rattle.expression.specs.Symbols.{symbol_of}
 use Rattle.expression.specs.Scan.{Scan, verdict, judged, unless, objection, onward, letters_of, spoken}
 

@@ -1,8 +1,8 @@
 -- What every tree has: a word in its language, and words that spell it.
-use Rattle.std.proofs.Common.{◌≡◌, ℕ, true, List, [], ◌∷◌, ◌++◌, length, sym, refl, ap, subst, inl, inr, arith}
+use Rattle.std.proofs.Common.{◌≡◌, ℕ, true, List, [], ◌∷◌, ◌++◌, length, refl, inl, arith}
 use Rattle.std.proofs.lemmas.Bool.{false≢true}
 use Rattle.expression.specs.Grammar.{Expression, HasTree, last_sequence, bar_next}
-use Rattle.expression.specs.Language.{Tree, Language, letter, either, then, star, plus, maybe, Many, none, more}
+use Rattle.expression.specs.Language.{Tree, Language, letter, either, then, star, plus, maybe, none}
 use Rattle.expression.specs.Readers.{begins_piece}
 use Rattle.expression.proofs.Unique.{ahead, sequence_begins}
 

@@ -1,5 +1,5 @@
 -- An expression read whole: its fault, and the labels of its states.
-use Rattle.std.proofs.Common.{◌≡◌, ℕ, suc, ◌+◌, ◌<◌, ◌≤◌, Bool, true, false, cond, ◌&&◌, ◌||◌, eqb, ltb, ◌⊎◌, List, [], ◌∷◌, ◌++◌, length, get_or, take, drop, Some, None, Ok, Err, sym, refl, ap, ◌∙◌, subst, inl, inr, ⊎_elim, append-nil, add-one, arith, length-drop, length-take-le, get_or-take}
+use Rattle.std.proofs.Common.{◌≡◌, ℕ, ◌+◌, ◌<◌, ◌≤◌, Bool, true, false, cond, ◌&&◌, ◌||◌, eqb, ◌⊎◌, List, [], ◌∷◌, ◌++◌, length, get_or, take, drop, Some, None, sym, refl, ap, ◌∙◌, subst, ⊎_elim, append-nil, add-one, arith, length-drop, length-take-le, get_or-take}
 use Rattle.std.proofs.lemmas.List.{drop_all, take_more}
 use Rattle.std.proofs.lemmas.Bool.{eq-eqb, ne_eqb, lt-ltb, le-ltb, false≢true, or_from, or_left, or_right, cases_lt, cases_Bool}
 use Rattle.expression.specs.declared.fault.Cause.{Cause}
@@ -12,17 +12,17 @@ use Rattle.expression.specs.declared.symbol.Symbol.{Symbol}
 use Rattle.expression.specs.declared.symbol.Symbol.TheVariants.{Letter, Open, Close, Bar, Star, Plus, Maybe}
 use Rattle.expression.specs.Grammar.{Expression, HasTree}
 use Rattle.expression.specs.Machines.{Empty, linked, label_of}
-use Rattle.expression.specs.Readers.{left, scan_at, ahead, labels_at, Exact, ReadPart, Stops, after_expression}
+use Rattle.expression.specs.Readers.{left, scan_at, ahead, Exact, ReadPart, Stops, after_expression}
 use Rattle.expression.specs.Fragments.{Fragment}
 use Rattle.expression.specs.Language.{Tree, Language}
 use Rattle.expression.specs.Positions.{may_be_empty, comes_first, comes_last, comes_after}
 use Rattle.expression.specs.Reading.{Fills, Why, Limited, Refused}
-use Rattle.expression.specs.Scan.{Scan, verdict, start, letters_of, unless, judged, onward, objection}
+use Rattle.expression.specs.Scan.{verdict, start, letters_of, unless}
 use Rattle.expression.specs.Symbols.{symbol_of}
 use Rattle.expression.proofs.Accepting.{Finished, accepts_says, accepts_takes}
 use Rattle.expression.proofs.Positions.{after_out}
 use Rattle.expression.proofs.Refusals.{is_limit, no_tree, too_many, too_deep, not_count}
-use Rattle.expression.proofs.Scans.{verdict_stop, verdict_on, verdict_none, fault_is}
+use Rattle.expression.proofs.Scans.{verdict_stop, fault_is}
 use Rattle.expression.proofs.Trees.{some_word, no_words}
 use Rattle.expression.proofs.Unique.{one_tree}
 

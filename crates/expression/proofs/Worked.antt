@@ -1,8 +1,8 @@
 -- The worked cases of what expressions denote.
-use Rattle.std.proofs.Common.{◌≡◌, ℕ, ◌+◌, ◌⊎◌, List, [], ◌∷◌, ◌++◌, length, Some, sym, refl, ap, ◌∙◌, subst, inl, inr, ⊎_elim, arith, length-append}
+use Rattle.std.proofs.Common.{◌≡◌, ℕ, List, [], ◌∷◌, ◌++◌, length, Some, refl, ap, subst, inl, inr, arith}
 use Rattle.expression.specs.declared.symbol.Symbol.TheVariants.{Letter, Open, Close, Bar, Star, Plus}
 use Rattle.expression.specs.Cases.{ExpressionCases, letter_word, open_word, close_word, bar_word, star_word, plus_word}
-use Rattle.expression.specs.Grammar.{Expression, Sequence, Piece, Atom, Repeats, last_sequence, bar_next, last_piece, piece_next, piece, letter_atom, group_atom, done, star_next, plus_next, HasTree, Denotes}
+use Rattle.expression.specs.Grammar.{Piece, last_sequence, bar_next, last_piece, piece_next, piece, letter_atom, group_atom, done, star_next, plus_next, HasTree, Denotes}
 use Rattle.expression.specs.Language.{Tree, Language, Many, none, more, letter, either, then, star, plus}
 use Rattle.expression.specs.Symbols.{symbol_of}
 use Rattle.expression.proofs.Unique.{one_tree}

@@ -1,5 +1,5 @@
 -- Worked cases of what expressions denote.
-use Rattle.std.specs.Prelude.{ℕ, ◌+◌, List, [], ◌∷◌}
+use Rattle.std.specs.Prelude.{ℕ, ◌+◌, [], ◌∷◌}
 use Rattle.expression.specs.Grammar.{Denotes}
 
 -- The words of the symbols, and a letter's by its label.

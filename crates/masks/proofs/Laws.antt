@@ -1,11 +1,11 @@
 -- How membership goes through the operations on masks: union, one state, no state, and past the last place.
-use Rattle.std.proofs.Common.{◌≡◌, ℕ, suc, ◌+◌, ◌-◌, ◌*◌, ◌/◌, ◌%◌, ◌^◌, ◌<◌, ◌≤◌, max, Bool, true, false, ◌&&◌, ◌||◌, eqb, ltb, ◌⊎◌, sym, refl, ap, ◌∙◌, subst, inl, inr, ⊎_elim, pow-suc, arith, pow_pos, pow_mono, pow-add}
+use Rattle.std.proofs.Common.{◌≡◌, ℕ, suc, ◌+◌, ◌-◌, ◌*◌, ◌/◌, ◌%◌, ◌^◌, ◌<◌, ◌≤◌, max, Bool, false, ◌&&◌, ◌||◌, eqb, ◌⊎◌, sym, refl, ap, ◌∙◌, inl, inr, ⊎_elim, pow-suc, arith, pow_pos, pow_mono, pow-add}
 use native.Mathlib.Nat.{div-eq_of_lt, div_self, mul-mod_left, zero-div}
 use lib.Arith.{digits_mod}
 use lib.Bits.{bit_or, or_shr, or_step}
 use lib.Pow.{pow-lt, shl-shr}
 use Rattle.std.proofs.lemmas.Nat.{mod_below, one_shl}
-use Rattle.std.proofs.lemmas.Bool.{eq-eqb, ne_eqb, cases_order, lt-ltb, le-ltb}
+use Rattle.std.proofs.lemmas.Bool.{eq-eqb, ne_eqb, cases_order, lt-ltb}
 use Rattle.masks.specs.Members.{member, with_member}
 
 bit-or : (a b k : ℕ) → bit_or a b / 2 ^ k % 2 ≡ max (a / 2 ^ k % 2) (b / 2 ^ k % 2)

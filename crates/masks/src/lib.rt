@@ -1,4 +1,6 @@
 // Sets of states. A query has at most 32 states, so a set of them is one 32-bit number, whose bit k says whether state k is in the set.
+#![tactic(auto)]
+
 ghost use Rattle.std.specs.Prelude.{◌≡◌, ℕ};
 ghost use Rattle.masks.specs.Members.{member, with_member};
 

@@ -1,13 +1,12 @@
 -- A pair left alone: only the clock moves, and links leave in their time.
-use Rattle.std.proofs.Common.{◌≡◌, ℕ, ◌+◌, ◌<◌, ◌≤◌, min, Bool, true, false, cond, not, ◌&&◌, ◌||◌, eqb, ltb, ◌⊎◌, List, [], ◌∷◌, length, is_some, Some, None, Option, unwrap_or, sym, refl, ap, ◌∙◌, subst, inl, inr, ⊎_elim, arith}
-use Rattle.std.proofs.lemmas.Bool.{cases_Bool, cases_lt, false≢true, both_ways, cond-true, cond-false, ltb-true, ltb-false, lt-ltb, le-ltb, or_parts, eqb-false}
+use Rattle.std.proofs.Common.{◌≡◌, ℕ, ◌+◌, ◌<◌, ◌≤◌, Bool, true, false, cond, ◌||◌, eqb, ltb, ◌⊎◌, List, [], ◌∷◌, length, is_some, Some, None, Option, unwrap_or, sym, refl, ap, ◌∙◌, subst, inl, inr, ⊎_elim, arith}
+use Rattle.std.proofs.lemmas.Bool.{false≢true, cond-true, ltb-true, ltb-false, lt-ltb, or_parts, eqb-false}
 use Rattle.query.specs.Meaning.{Meaning}
-use Rattle.paths.specs.Links.{Links, Triple, same, leaves, is_kept, rank_of, last_clock}
-use Rattle.paths.specs.Paths.{Path, Chain, word, path_time, time_of}
-use Rattle.paths.specs.Arrivals.{Arrives}
+use Rattle.paths.specs.Links.{Triple, same, leaves, is_kept, last_clock}
+use Rattle.paths.specs.Paths.{Chain, path_time, time_of}
 use Rattle.paths.specs.Pairs.{Stands, PairTime}
 use Rattle.paths.specs.Plain.{Held, Plain, idle, opened, Standing, Call, opening, adding, dropping, advancing, entering, leaving, Memory, Refusal, first_of, open_refusals, advance_refusals, refusal, after, changed, unless_past, counting, in_maintenance, ranked}
-use Rattle.paths.specs.Runs.{Change, Outcome, Answer, refused, done, count, pass, Takes, Event, Row, begin, then, is_quiet, Quiet, LeftAloneLaw}
+use Rattle.paths.specs.Runs.{Change, Outcome, Answer, Takes, Event, Row, begin, then, is_quiet, Quiet, LeftAloneLaw}
 use Rattle.paths.proofs.Chains.{AtLeast, time_at_least}
 
 none_some : {A B : Type 0} (x : A) → ◌≡◌ {A = Option A} None (Some x) → B

@@ -1,11 +1,11 @@
 -- Announcements less withdrawals, over any row of calls from the idle watch.
-use Rattle.std.proofs.Common.{◌≡◌, ℕ, ◌+◌, ◌<◌, ◌≤◌, Bool, true, false, cond, ◌||◌, ◌⊎◌, List, [], ◌∷◌, length, is_some, Some, None, Option, sym, refl, ap, ◌∙◌, subst, inl, inr, ⊎_elim, arith}
+use Rattle.std.proofs.Common.{◌≡◌, ℕ, ◌+◌, ◌<◌, Bool, true, false, cond, ◌||◌, List, [], ◌∷◌, is_some, Some, None, Option, sym, refl, ap, ◌∙◌, subst, ⊎_elim, arith}
 use Rattle.std.proofs.lemmas.Bool.{cases_eq, cases_lt, false≢true}
 use Rattle.query.specs.Meaning.{Meaning}
-use Rattle.paths.specs.Links.{Links, Triple}
-use Rattle.paths.specs.Paths.{Path, Chain}
+use Rattle.paths.specs.Links.{Triple}
+use Rattle.paths.specs.Paths.{Path}
 use Rattle.paths.specs.Pairs.{Stands}
-use Rattle.paths.specs.Plain.{Held, Plain, idle, opened, Standing, Call, opening, adding, dropping, advancing, entering, leaving, Memory, refusal, after, changed, counting, in_maintenance, ranked}
+use Rattle.paths.specs.Plain.{Held, Plain, idle, opened, Standing, Call, opening, adding, dropping, advancing, entering, leaving, Memory, refusal, after, counting, in_maintenance, ranked}
 use Rattle.paths.specs.Runs.{Change, times, Reports, ReportOf, Outcome, Answer, Takes, Event, Row, begin, then, times_in, BalanceLaw}
 
 -- The balance of a pair after a row.

@@ -1,7 +1,7 @@
 -- Paths joined at a point, and what holds of every link of a path.
-use Rattle.std.proofs.Common.{◌≡◌, ℕ, ◌+◌, ◌<◌, ◌≤◌, min, List, [], ◌∷◌, ◌++◌, length, sym, refl, ap, ◌∙◌, subst, arith}
+use Rattle.std.proofs.Common.{◌≡◌, ℕ, ◌+◌, ◌<◌, ◌≤◌, List, [], ◌∷◌, ◌++◌, length, sym, refl, ap, subst, arith}
 use Rattle.paths.specs.Links.{Links, Triple}
-use Rattle.paths.specs.Paths.{Chain, word, path_time, time_of}
+use Rattle.paths.specs.Paths.{Chain, word, path_time}
 use Rattle.paths.specs.Tables.{link_rank}
 
 pub chain_join : (G : Links) (ts us : List Triple) (a b c : ℕ) → Chain G a ts b → Chain G b us c → Chain G a (ts ++ us) c

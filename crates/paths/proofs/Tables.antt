@@ -1,15 +1,15 @@
 -- A table that is supported and closed is right.
-use Rattle.std.proofs.Common.{◌≡◌, ℕ, zero, suc, ◌+◌, ◌-◌, ◌*◌, ◌/◌, ◌%◌, ◌<◌, ◌≤◌, min, Bool, true, false, cond, ltb, ◌⊎◌, List, [], ◌∷◌, ◌++◌, length, is_some, Some, None, Option, sym, refl, ap, ◌∙◌, subst, inl, inr, ⊎_elim, mul_comm, arith, length-append}
+use Rattle.std.proofs.Common.{◌≡◌, ℕ, zero, suc, ◌+◌, ◌*◌, ◌/◌, ◌%◌, ◌<◌, ◌≤◌, true, ◌⊎◌, List, [], ◌∷◌, ◌++◌, length, Some, None, Option, sym, refl, ap, ◌∙◌, subst, inl, inr, ⊎_elim, mul_comm, arith, length-append}
 use Rattle.std.proofs.lemmas.Nat.{mul-add-lt, div-mul-add, mod-mul-add}
 use Rattle.std.proofs.lemmas.Bool.{cases_lt, cases_Bool, both_ways}
 use Rattle.query.specs.Meaning.{Meaning, Lawful}
 use Rattle.query.specs.Words.{Leads}
 use Rattle.query.proofs.Runs.{leads_push}
 use Rattle.paths.specs.Links.{Links, Triple}
-use Rattle.paths.specs.Paths.{Chain, Path, word, path_time}
-use Rattle.paths.specs.Arrivals.{Arrives, Reached, ArrivalTime, LastStep}
+use Rattle.paths.specs.Paths.{Chain, word, path_time}
+use Rattle.paths.specs.Arrivals.{Arrives, Reached, LastStep}
 use Rattle.paths.specs.Pairs.{Stands}
-use Rattle.paths.specs.Tables.{Step, Table, link_rank, Into, Shown, first, next, Supported, Closed, Right, PairShown, Below, TableLaw}
+use Rattle.paths.specs.Tables.{Step, Table, Shown, first, next, Supported, Closed, Right, PairShown, Below, TableLaw}
 use Rattle.paths.proofs.Chains.{chain_join, word_join, AtLeast, at_least_less, at_least_join, time_at_least, at_least_time}
 use Rattle.paths.proofs.Pigeons.{Different, at_most}
 

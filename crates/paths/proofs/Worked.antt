@@ -1,19 +1,19 @@
 -- The worked cases.
-use Rattle.std.proofs.Common.{◌≡◌, ℕ, ◌+◌, ◌<◌, ◌≤◌, min, Bool, true, false, cond, ◌&&◌, ◌||◌, eqb, ltb, ◌⊎◌, List, [], ◌∷◌, ◌++◌, length, is_some, Some, None, unwrap_or, sym, refl, ap, ◌∙◌, subst, inl, inr, ⊎_elim, arith}
-use Rattle.std.proofs.lemmas.Bool.{and_parts, eqb-true, eq-eqb, false≢true, both_ways, or_right}
+use Rattle.std.proofs.Common.{◌≡◌, ℕ, ◌≤◌, Bool, true, false, cond, eqb, ltb, List, [], ◌∷◌, ◌++◌, is_some, Some, None, unwrap_or, sym, refl, ap, ◌∙◌, subst, arith}
+use Rattle.std.proofs.lemmas.Bool.{and_parts, eqb-true, false≢true, both_ways, or_right}
 use Rattle.query.specs.Meaning.{Meaning}
-use Rattle.query.specs.Words.{Leads, Accepts}
+use Rattle.query.specs.Words.{Leads}
 use Rattle.expression.specs.Cases.{letter_word}
 use Rattle.expression.specs.Grammar.{HasTree, Denotes, last_sequence, piece_next, last_piece}
-use Rattle.expression.specs.Language.{Tree, Language, letter, then}
+use Rattle.expression.specs.Language.{Language, letter, then}
 use Rattle.expression.proofs.Unique.{one_tree}
 use Rattle.expression.proofs.Worked.{worked, one_letter, word_one, word_two}
 use Rattle.paths.specs.Links.{Links, Triple, same}
-use Rattle.paths.specs.Paths.{Path, Chain, word, path_time, time_of}
+use Rattle.paths.specs.Paths.{Chain, word, path_time, time_of}
 use Rattle.paths.specs.Arrivals.{Arrives}
 use Rattle.paths.specs.Pairs.{Stands, PairTime}
-use Rattle.paths.specs.Plain.{Held, counting, in_maintenance, ranked}
-use Rattle.paths.specs.Cases.{QueryOf, link, no_links, besides, watch_of, two_links, four_links, no_passes, pass_at_one, WorkedCases}
+use Rattle.paths.specs.Plain.{counting, ranked}
+use Rattle.paths.specs.Cases.{QueryOf, link, watch_of, two_links, four_links, no_passes, pass_at_one, WorkedCases}
 use Rattle.paths.proofs.Alone.{blocked, counts_at}
 
 -- The expression 1 2 denotes just the word (1 2).

@@ -1,5 +1,5 @@
 -- Worked cases of the definitions, those of expressions among them.
-use Rattle.std.specs.Prelude.{◌≡◌, ℕ, Bool, true, false, cond, List, [], ◌∷◌, Some, None, ◌==◌}
+use Rattle.std.specs.Prelude.{◌≡◌, ℕ, true, false, cond, List, [], ◌∷◌, Some, None, ◌==◌}
 use Rattle.query.specs.Meaning.{Meaning}
 use Rattle.query.specs.Words.{Accepts}
 use Rattle.expression.specs.Cases.{ExpressionCases, letter_word}

@@ -1,5 +1,5 @@
 -- Links, and for how long each is kept.
-use Rattle.std.specs.Prelude.{ℕ, ◌+◌, ◌<◌, Bool, cond, ◌&&◌, Some, None, Option, ◌==◌, nat_lt}
+use Rattle.std.specs.Prelude.{ℕ, ◌+◌, Bool, ◌&&◌, Option, ◌==◌, nat_lt}
 
 -- A watch has at most this many points; they are 0 to n less 1.
 abbrev pub most_points : ℕ

@@ -1,7 +1,7 @@
 -- The plain watch: what it holds, its calls with their refusals in order, and what it then tells. It works everything out anew.
-use Rattle.std.specs.Prelude.{◌≡◌, ℕ, zero, suc, ◌+◌, ◌-◌, ◌*◌, ◌<◌, min, Bool, true, false, cond, not, ◌&&◌, ◌||◌, List, [], ◌∷◌, length, is_some, Some, None, Option, ◌==◌, nat_le, nat_lt}
+use Rattle.std.specs.Prelude.{ℕ, zero, suc, ◌+◌, ◌-◌, ◌*◌, min, Bool, cond, not, ◌&&◌, ◌||◌, List, [], ◌∷◌, is_some, Some, None, Option, ◌==◌, nat_le, nat_lt}
 use Rattle.query.specs.Meaning.{Meaning, most_states, last_label}
-use Rattle.paths.specs.Links.{Links, Triple, same, leaves, is_kept, rank_of, most_points, last_clock}
+use Rattle.paths.specs.Links.{Links, Triple, same, is_kept, rank_of, most_points, last_clock}
 use Rattle.paths.specs.Pairs.{Stands}
 
 -- What an open watch holds: its number of points, window and tag, the query's meaning, the clock, the kept links with their times, and how

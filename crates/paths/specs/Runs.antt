@@ -1,7 +1,7 @@
 -- Reports, and rows of calls on the plain watch.
 use Rattle.std.specs.Prelude.{◌≡◌, ℕ, ◌+◌, ◌*◌, ◌<◌, Bool, true, false, cond, not, ◌&&◌, ◌⊎◌, List, [], ◌∷◌, length, Some, None, Option, ◌==◌}
 use Rattle.paths.specs.Links.{leaves}
-use Rattle.paths.specs.Pairs.{Stands, PairTime}
+use Rattle.paths.specs.Pairs.{PairTime}
 use Rattle.paths.specs.Plain.{Held, Plain, idle, opened, Standing, Call, opening, adding, dropping, advancing, entering, leaving, Memory, refusal, after, counting}
 
 -- One word of a report: a pair that stands now and did not, announced; or one that stood and does not, withdrawn.

@@ -1,5 +1,5 @@
 -- Sets of states held in a mask, built up or gone through one state after the other.
-use Rattle.std.proofs.Common.{◌≡◌, ℕ, ◌+◌, ◌^◌, ◌<◌, ◌≤◌, Bool, true, false, ◌&&◌, ◌||◌, eqb, ltb, Decides, sym, refl, ap, ◌∙◌, subst, inl, inr, ⊎_elim, arith}
+use Rattle.std.proofs.Common.{◌≡◌, ℕ, ◌+◌, ◌^◌, ◌<◌, true, false, ◌&&◌, eqb, ltb, Decides, sym, ◌∙◌, subst, ⊎_elim, arith}
 use Rattle.std.proofs.lemmas.Bool.{cases_lt, false≢true, both_ways, or_cases, or_left, or_right, and_parts, and_from, eqb-true, eq-eqb, lt-ltb}
 use Rattle.masks.specs.Members.{member, with_member}
 use Rattle.masks.proofs.Laws.{member_above, member_one, member_none}

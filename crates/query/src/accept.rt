@@ -10,7 +10,7 @@ const START: u32 = 1;
 
 /// Whether the query accepts the word. A word with a label above 15 is not accepted.
 pub fn accepts<Q: Query>(query: &Q, word: &[u32]) -> bool
-    ensures { Decides result (Accepts (meaning query.now) word.now) }
+    ensures { Decides result (Accepts (Q.meaning query.now) word.now) }
 {
     let mut states = START;
     for label in word {
@@ -21,7 +21,7 @@ pub fn accepts<Q: Query>(query: &Q, word: &[u32]) -> bool
 
 // The states that a move on the label can lead to from a state of the set.
 fn after<Q: Query>(query: &Q, from: u32, label: u32) -> u32
-    ensures { (t : ℕ) → Decides (member result t) ((s : ℕ) × (member from s ≡ true) × ((meaning query.now).moves s label t ≡ true)) }
+    ensures { (t : ℕ) → Decides (member result t) ((s : ℕ) × (member from s ≡ true) × ((Q.meaning query.now).moves s label t ≡ true)) }
 {
     let mut next = 0;
     for state in 0..masks::PLACES {
@@ -34,7 +34,7 @@ fn after<Q: Query>(query: &Q, from: u32, label: u32) -> u32
 
 // Whether a move on the label leads from a state of the set to `next`.
 fn is_next<Q: Query>(query: &Q, from: u32, label: u32, next: u32) -> bool
-    ensures { Decides result ((s : ℕ) × (member from s ≡ true) × ((meaning query.now).moves s label next ≡ true)) }
+    ensures { Decides result ((s : ℕ) × (member from s ≡ true) × ((Q.meaning query.now).moves s label next ≡ true)) }
 {
     for state in 0..masks::PLACES {
         if masks::has(from, state) && query.moves(state, label, next) {
@@ -46,7 +46,7 @@ fn is_next<Q: Query>(query: &Q, from: u32, label: u32, next: u32) -> bool
 
 // Whether some state of the set accepts.
 fn some_accepting<Q: Query>(query: &Q, states: u32) -> bool
-    ensures { Decides result ((s : ℕ) × (member states s ≡ true) × ((meaning query.now).accepting s ≡ true)) }
+    ensures { Decides result ((s : ℕ) × (member states s ≡ true) × ((Q.meaning query.now).accepting s ≡ true)) }
 {
     for state in 0..masks::PLACES {
         if masks::has(states, state) && query.accepting(state) {

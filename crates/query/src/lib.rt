@@ -1,4 +1,6 @@
 // Queries: which sequences of links are wanted, as a machine that goes over a word of labels.
+#![tactic(auto)]
+
 pub mod accept;
 pub mod both;
 

@@ -1,11 +1,11 @@
 -- A start that is whole.
-use Rattle.std.proofs.Common.{◌≡◌, ℕ, ◌+◌, ◌-◌, ◌*◌, ◌/◌, ◌≤◌, Bool, true, cond, eqb, ltb, List, [], ◌∷◌, length, get_or, take, drop, Ok, Err, Result, sym, refl, ap, ◌∙◌, arith}
+use Rattle.std.proofs.Common.{◌≡◌, ℕ, ◌+◌, ◌-◌, ◌*◌, ◌/◌, ◌≤◌, Bool, cond, ltb, List, [], ◌∷◌, length, get_or, take, drop, Ok, Err, Result, sym, ap, ◌∙◌, arith}
 use native.Mathlib.Nat.{sub-zero}
 use Rattle.std.proofs.lemmas.List.{take_rest}
 use Rattle.std.proofs.lemmas.Bool.{eq-eqb, le-ltb}
 use Rattle.records.specs.declared.fault.TapeFault.{TapeFault}
 use Rattle.records.specs.declared.fault.TapeFault.TheVariants.{Short, Stray}
-use Rattle.records.specs.Records.{Shape, start, start_shape, is_start, is_window, count_in, points_in}
+use Rattle.records.specs.Records.{Shape, start, start_shape, is_window, count_in, points_in}
 
 pub start_whole : (ws : List ℕ) → get_or ws 0 0 ≡ 0x80000000 + 256 * count_in (get_or ws 0 0) + points_in (get_or ws 0 0) → get_or ws 1 0 / 0x10000000 ≡ 9 → count_in (get_or ws 0 0) ≤ length (take (length ws - 2) (drop 2 ws)) → ◌≡◌ {A = Result Shape TapeFault} (Ok (start (points_in (get_or ws 0 0)) (get_or ws 1 0 - 0x90000000) (take (count_in (get_or ws 0 0) - 0) (take (length ws - 2) (drop 2 ws))))) (start_shape ws)
 start_whole [] first second room = absurd (omega arith)

@@ -1,5 +1,5 @@
 -- The words of a tape's bytes, counted and one by one.
-use Rattle.std.proofs.Common.{◌≡◌, ℕ, zero, suc, ◌+◌, ◌*◌, ◌/◌, ◌<◌, ◌≤◌, List, [], ◌∷◌, length, get_or, sym, refl, ap, ◌∙◌, subst, arith}
+use Rattle.std.proofs.Common.{◌≡◌, ℕ, zero, suc, ◌+◌, ◌*◌, ◌/◌, ◌<◌, List, [], ◌∷◌, length, get_or, refl, ◌∙◌, arith}
 use Rattle.records.specs.Loading.{words_of, word_of_bytes}
 
 pub words_length : (bs : List ℕ) → length (words_of bs) ≡ length bs / 4

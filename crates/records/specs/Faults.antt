@@ -1,9 +1,7 @@
 -- What is told of a fault: its layer of origin, its number, and the word of the tape.
 use Rattle.std.specs.Prelude.{ℕ, ◌+◌, ◌-◌, ◌^◌, min}
-use Rattle.expression.specs.declared.fault.Fault.{Fault}
 use Rattle.expression.specs.Faults.{cause_number}
 use Rattle.watch.specs.Refusals.{refusal_number}
-use Rattle.records.specs.declared.fault.TapeFault.{TapeFault}
 use Rattle.records.specs.declared.fault.TapeFault.TheVariants.{Short, Stray, TooLong, Expression}
 use Rattle.records.specs.declared.fault.RunFault.{RunFault}
 use Rattle.records.specs.declared.fault.RunFault.TheVariants.{Tape, Watch}

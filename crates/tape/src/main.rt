@@ -1,4 +1,6 @@
 // tape: reads a tape from standard input and prints what comes of it, line by line.
+#![tactic(auto)]
+
 ghost use Rattle.std.specs.Prelude.{◌≤◌, length, IfOk};
 
 use anyhow::anyhow;

@@ -1,6 +1,8 @@
 // words: tries words on the machines of expressions and on products of them. Standard input is a stream of 32-bit words, low byte
 // first, each command a number, a count and that many words: 1 reads an expression into the machine, 2 asks whether the machine
 // accepts a word, and 3 to 5 ask it of a product of machines of their own.
+#![tactic(auto)]
+
 mod product;
 
 use anyhow::anyhow;

@@ -1,4 +1,4 @@
-use Rattle.std.proofs.Common.{sym, subst, arith}
+use Rattle.std.proofs.Common.{sym, subst}
 use Rattle.std.proofs.lemmas.List.{take_more, take_all}
 use Rattle.query.proofs.Runs.{Reached, reached_more, reached_accepts}
 use Rattle.query.proofs.Sets.{only_zero}
@@ -16,4 +16,4 @@ loop-label-preserved g c =
 pub returns : goal.returns
 returns g c =
     let m = g.Q.Query.meaning c.args.query.now in
-    reached_accepts m _ _ _ (subst (Reached m c.loop-label.states) (take_all c.loop-label.label-index c.args.word.now c.loop-label-test.false) c.loop-label.invariant) c.some-accepting.ensures
+    reached_accepts m _ _ _ (subst (Reached m c.loop-label.states) (take_all c.loop-label.label-index c.args.word.now c.loop-label-test.false) c.loop-label.invariant) c.some_accepting.ensures

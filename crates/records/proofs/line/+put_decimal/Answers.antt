@@ -10,22 +10,22 @@ returns-then-number-lt10 t c =
     let one = decimal_short c.args.number c.if-number-lt10.true in
     record { value = omega arith; puts = puts_digit c.args.memory.now c.args.at c.args.number c.if-number-lt10.true (omega arith) }
 
-pub put-decimal-last-requires : goal.put-decimal-last-requires
-put-decimal-last-requires t c = (omega arith, omega (arith, decimal_long c.args.number (omega arith) (omega arith)))
+pub put_decimal-last-requires : goal.put_decimal-last-requires
+put_decimal-last-requires t c = (omega arith, omega (arith, decimal_long c.args.number (omega arith) (omega arith)))
 
 pub bounds-memory-last : goal.bounds-memory-last
 bounds-memory-last t c =
-    omega (arith, decimal_long c.args.number (omega arith) (omega arith), c.put-decimal-last.ensures.value, c.put-decimal-last.auto.memory)
+    omega (arith, decimal_long c.args.number (omega arith) (omega arith), c.put_decimal-last.ensures.value, c.put_decimal-last.auto.memory)
 
-pub overflow-add-result-2 : goal.overflow-add-result-2
-overflow-add-result-2 t c = record { fits = omega (arith, decimal_long c.args.number (omega arith) (omega arith), c.put-decimal-last.ensures.value) }
+pub overflow_add-result-2 : goal.overflow_add-result-2
+overflow_add-result-2 t c = record { fits = omega (arith, decimal_long c.args.number (omega arith) (omega arith), c.put_decimal-last.ensures.value) }
 
 pub returns : goal.returns
 returns t c =
     let long = decimal_long c.args.number (omega arith) (omega arith) in
     record {
-      value = omega (arith, c.put-decimal-last.ensures.value);
+      value = omega (arith, c.put_decimal-last.ensures.value);
       puts =
-          puts_last c.args.memory.now _ c.args.at _ c.args.number c.if-number-lt10.false (omega arith) c.requires c.put-decimal-last.ensures.puts
-          c.put-decimal-last.ensures.value c.put-decimal-last.auto.memory;
+          puts_last c.args.memory.now _ c.args.at _ c.args.number c.if-number-lt10.false (omega arith) c.requires c.put_decimal-last.ensures.puts
+          c.put_decimal-last.ensures.value c.put_decimal-last.auto.memory;
     }

@@ -1,4 +1,4 @@
-use Rattle.std.proofs.Common.{refl, zero-add, arith}
+use Rattle.std.proofs.Common.{refl, zero-add}
 use Rattle.records.proofs.Fronts.{over_more, over_all}
 use Rattle.records.proofs.line.put_head.Goals as goal
 

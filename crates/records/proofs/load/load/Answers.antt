@@ -10,10 +10,10 @@ pub loop-i-preserved : goal.loop-i-preserved
 loop-i-preserved c =
     let count = words_length c.args.bytes.now in (
       length-set c.loop-i.memory _ _ ∙ c.loop-i.invariant.0,
-      over_more _ _ _ _ _ (omega arith) (c.word-at.ensures ∙ sym (words_at c.args.bytes.now c.loop-i.i (omega arith))) c.loop-i.invariant.1,
+      over_more _ _ _ _ _ (omega arith) (c.word_at.ensures ∙ sym (words_at c.args.bytes.now c.loop-i.i (omega arith))) c.loop-i.invariant.1,
     )
 
 pub returns : goal.returns
 returns c =
     let count = words_length c.args.bytes.now in
-    (c.if-bytes-gt-MOST-BYTES.false, refl, over_all _ _ _ _ _ (omega arith) (omega arith) c.loop-i.invariant.1)
+    (c.if-bytes-gt-MOST_BYTES.false, refl, over_all _ _ _ _ _ (omega arith) (omega arith) c.loop-i.invariant.1)

@@ -4,22 +4,22 @@ use Rattle.paths.specs.Plain.{first_of, open_refusals}
 use Rattle.records.specs.Starts.{arrivals}
 use Rattle.records.proofs.start.begin.Goals as goal
 
-pub returns-in-err-check : goal.returns-in-err-check
-returns-in-err-check c =
-    let p = err_from_is_err_and c.from-residual-in-err-check.result c.from-residual-in-err-check.ensures.1 in
-    let b = c.in-ok-begun.begun in
-    let held = c.in-ok-begun.ensures in
+pub returns-in_err-check : goal.returns-in_err-check
+returns-in_err-check c =
+    let p = err_from_is_err_and c.from_residual-in_err-check.result c.from_residual-in_err-check.ensures.1 in
+    let b = c.in_ok-begun.begun in
+    let held = c.in_ok-begun.ensures in
     rw (p.1, p.2) (record {
       n = b.n;
       window = b.window;
       expression = held.expression;
       shape = held.shape;
       reads = held.reads;
-      refused = ap (λ size. first_of (open_refusals arrivals b.n b.window size)) (sym held.fills.size) ∙ sym c.in-err-check.ensures;
+      refused = ap (λ size. first_of (open_refusals arrivals b.n b.window size)) (sym held.fills.size) ∙ sym c.in_err-check.ensures;
     })
 
 pub returns : goal.returns
 returns c =
-    let b = c.in-ok-begun.begun in
-    let held = c.in-ok-begun.ensures in
-    (held, ap (λ size. first_of (open_refusals arrivals b.n b.window size)) (sym held.fills.size) ∙ sym c.in-ok-check.ensures)
+    let b = c.in_ok-begun.begun in
+    let held = c.in_ok-begun.ensures in
+    (held, ap (λ size. first_of (open_refusals arrivals b.n b.window size)) (sym held.fills.size) ∙ sym c.in_ok-check.ensures)

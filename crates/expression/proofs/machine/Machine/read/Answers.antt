@@ -4,14 +4,14 @@ use Rattle.std.proofs.lemmas.Bool.{eqb-true, eqb-false}
 use Rattle.expression.proofs.Whole.{refused, refused_count}
 use Rattle.expression.proofs.machine.Machine.read.Goals as goal
 
-pub returns-then-is-empty : goal.returns-then-is-empty
-returns-then-is-empty c = (
-  refused_count c.args.words.now (⊎_elim (λ e. inl (eqb-true _ 0 (sym c.is-empty.ensures ∙ e))) (λ x. inr x.1) c.then-is-empty.either),
+pub returns-then-is_empty : goal.returns-then-is_empty
+returns-then-is_empty c = (
+  refused_count c.args.words.now (⊎_elim (λ e. inl (eqb-true _ 0 (sym c.is_empty.ensures ∙ e))) (λ x. inr x.1) c.then-is_empty.either),
   refl,
 )
 
-pub returns-in-err-self : goal.returns-in-err-self
-returns-in-err-self c =
-    let p = err_from_is_err_and c.from-residual.result c.from-residual.ensures.1 in
-    let some = eqb-false _ 0 (sym c.is-empty.ensures ∙ c.if-is-empty.false) in
-    rw (p.1, p.2) (refused c.args.words.now c.in-err-self.field-0.0 (omega arith) c.if-words-gt-MOST-WORDS.false c.in-err-self.ensures, refl)
+pub returns-in_err-self : goal.returns-in_err-self
+returns-in_err-self c =
+    let p = err_from_is_err_and c.from_residual.result c.from_residual.ensures.1 in
+    let some = eqb-false _ 0 (sym c.is_empty.ensures ∙ c.if-is_empty.false) in
+    rw (p.1, p.2) (refused c.args.words.now c.in_err-self.field-0.0 (omega arith) c.if-words-gt-MOST_WORDS.false c.in_err-self.ensures, refl)

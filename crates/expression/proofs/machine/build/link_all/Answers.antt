@@ -1,5 +1,5 @@
 use Rattle.std.proofs.Common.{arith}
-use Rattle.expression.proofs.Machines.{linked_none, linked_in, linked_out, linked_all}
+use Rattle.expression.proofs.Machines.{linked_all}
 use Rattle.expression.proofs.machine.build.link_all.Goals as goal
 
 pub returns : goal.returns
