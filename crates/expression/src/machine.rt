@@ -4,7 +4,7 @@ pub mod ask;
 mod build;
 pub mod read;
 
-ghost use Rattle.std.specs.Prelude.{◌≡◌, ℕ, ◌<◌, ◌≤◌, true, length, slice_index};
+ghost use Rattle.std.specs.Prelude.{◌≡◌, ℕ, ◌≤◌, true, length, slice_index};
 ghost use Rattle.masks.specs.Members.{member};
 
 /// How many states a machine can have, the start among them.

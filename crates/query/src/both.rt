@@ -1,7 +1,7 @@
 // Two queries as one, which goes over a word in both at once and so accepts the words that both accept.
 ghost use Rattle.std.specs.Prelude.{◌≡◌, Decides};
 ghost use Rattle.query.specs.Words.{Accepts};
-ghost use Rattle.query.specs.Both.{first_of, second_of, is_state, both_meaning, both_lawful, meaning_of, AcceptsBoth};
+ghost use Rattle.query.specs.Both.{first_of, second_of, is_state, both_lawful, meaning_of, AcceptsBoth};
 
 use crate::{Query, accept};
 

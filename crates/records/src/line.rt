@@ -1,5 +1,5 @@
 // The lines that are printed of a tape's run: a word, then numbers in decimal with a space before each, and byte 10 last.
-ghost use Rattle.std.specs.Prelude.{◌≡◌, ◌+◌, ◌≤◌, [], ◌∷◌, ◌++◌, length, decimal};
+ghost use Rattle.std.specs.Prelude.{◌≡◌, ◌+◌, ◌≤◌, ◌++◌, length, decimal};
 ghost use Rattle.records.specs.Lines.{line_bytes, fields, Writes, Puts, line_refusal_number};
 
 use crate::fault::RunFault;

@@ -1,5 +1,4 @@
 // A machine is a query.
-ghost use Rattle.std.specs.Prelude.{◌≡◌};
 ghost use Rattle.expression.specs.Machines.{machine_meaning, machine_lawful};
 
 use crate::machine::{MOST_STATES, Machine};

@@ -1,5 +1,5 @@
 // How a machine is built while its expression is read.
-ghost use Rattle.std.specs.Prelude.{◌≡◌, ℕ, ◌+◌, ◌<◌, ◌≤◌, true, ◌&&◌, ◌||◌, length, set, slice_index, slice_set};
+ghost use Rattle.std.specs.Prelude.{◌≡◌, ℕ, ◌+◌, ◌<◌, ◌≤◌, true, ◌&&◌, ◌||◌, length, slice_index, slice_set};
 ghost use Rattle.masks.specs.Members.{member};
 ghost use Rattle.expression.specs.Machines.{Empty, linked};
 ghost use Rattle.expression.specs.Parts.{accepted, optional, Within};
