@@ -6,23 +6,17 @@ use Rattle.query.specs.Words.{Leads, Accepts}
 use Rattle.expression.specs.declared.machine.Machine.{Machine}
 use Rattle.expression.specs.declared.part.Part.{Part}
 use Rattle.expression.specs.Fragments.{Walk, Through, Fragment}
-use Rattle.expression.specs.Machines.{machine_meaning, linked, label_of}
+use Rattle.expression.specs.Built.{Finished}
+use Rattle.expression.specs.Machines.{machine_meaning, linked, label_of, letters_in}
 use Rattle.expression.specs.Parts.{accepted}
 
--- What a call of `finish` says of the machine.
-pub record Finished (m m' : Machine) (p : Part) : Type 0 where
-  pub labels : m'.labels ≡ m.labels
-  pub ends : (s : ℕ) → member m'.accepting s ≡ accepted p s
-  pub start : (t : ℕ) → linked m' 0 t ≡ member p.first t
-  pub follow : (s t : ℕ) → 1 ≤ s → linked m' s t ≡ linked m s t
-
-module _ {m m' : Machine} {p : Part} {P : List ℕ → Type 0} (f : Fragment (linked m) (label_of m) 0 m.letters p P) (fin : Finished m m' p) where
+module _ {m m' : Machine} {p : Part} {P : List ℕ → Type 0} (f : Fragment (linked m) (label_of m) 0 (letters_in m) p P) (fin : Finished m m' p) where
   same_label : (t : ℕ) → label_of m' t ≡ label_of m t
   same_label t = ap (λ xs. get_or xs t 0) fin.labels
 
   -- After the start, the machine's moves are the fragment's.
-  from_leads : (w : List ℕ) (s t : ℕ) → 0 < s → s ≤ m.letters → Leads (machine_meaning m') s w t → Walk (linked m) (label_of m) s w t × ((0 < t) × (t ≤ m.letters))
-  from_leads [] s t a b e = (e, subst (λ (x : ℕ). (0 < x) × (x ≤ m.letters)) e (a, b))
+  from_leads : (w : List ℕ) (s t : ℕ) → 0 < s → s ≤ (letters_in m) → Leads (machine_meaning m') s w t → Walk (linked m) (label_of m) s w t × ((0 < t) × (t ≤ (letters_in m)))
+  from_leads [] s t a b e = (e, subst (λ (x : ℕ). (0 < x) × (x ≤ (letters_in m))) e (a, b))
   from_leads (l ∷ w) s t a b x =
       let q = and_parts (linked m' s x.0) _ x.1 in
       let move = sym (fin.follow s x.0 a) ∙ q.0 in
@@ -30,7 +24,7 @@ module _ {m m' : Machine} {p : Part} {P : List ℕ → Type 0} (f : Fragment (li
       let rest = from_leads w x.0 t r.0 r.1 x.2 in
       ((x.0, move, sym (same_label x.0) ∙ eqb-true _ l q.1, rest.0), rest.1)
 
-  to_leads : (w : List ℕ) (s t : ℕ) → 0 < s → s ≤ m.letters → Walk (linked m) (label_of m) s w t → Leads (machine_meaning m') s w t
+  to_leads : (w : List ℕ) (s t : ℕ) → 0 < s → s ≤ (letters_in m) → Walk (linked m) (label_of m) s w t → Leads (machine_meaning m') s w t
   to_leads [] s t a b e = e
   to_leads (l ∷ w) s t a b x =
       let r = f.stays s x.0 a b x.1 in

@@ -1,97 +1,105 @@
 -- A machine keeps its own law while it is built.
-use Rattle.std.proofs.Common.{◌≡◌, ℕ, ◌+◌, ◌^◌, ◌<◌, ◌≤◌, Bool, true, false, cond, ◌&&◌, ◌||◌, ltb, ◌⊎◌, List, length, get_or, set, replicate, sym, refl, ap, ◌∙◌, subst, inl, inr, ⊎_elim, arith, length-set}
-use lib.Bits.{bit_or}
-use lib.ListN.{get_or-replicate, length-replicate}
-use Rattle.std.proofs.lemmas.List.{get_or-set_same, get_or-set_other, get_or_past}
-use Rattle.std.proofs.lemmas.Bool.{cases_eq, cases_lt, cases_Bool, both_ways, cond-true, cond-false, lt-ltb, le-ltb}
+use Rattle.std.proofs.Common.{◌≡◌, ◌≢◌, ℕ, ◌+◌, ◌<◌, ◌≤◌, Bool, true, false, ◌&&◌, ◌||◌, ltb, List, [], ◌∷◌, ◌++◌, length, get_or, set, ◌∙◌, sym, ap, subst, ◌⊎◌, inl, inr, ⊎_elim, arith}
+use Rattle.std.specs.List.{refill}
+use Rattle.std.proofs.lemmas.Grind.{common_steps}
+use Rattle.std.proofs.lemmas.List.{length-map, map-append, map-set, length-set, get_or-set_same, get_or-set_other, get_or-map}
+use Rattle.std.proofs.lemmas.Bool.{cases_eq, cases_Bool}
+use Rattle.std.proofs.lemmas.Bool.Decides.{nat_tests}
+use Rattle.std.proofs.Math.Seq.{map-set_same}
 use Rattle.masks.specs.Members.{member}
-use Rattle.masks.proofs.Laws.{member_none, member_or, member_above}
+use Rattle.expression.specs.declared.machine.Machine.{Machine}
+use Rattle.expression.specs.declared.machine.Position.{Position}
+use Rattle.expression.specs.Machines.{linked, linked_from}
+use Rattle.expression.specs.Rows.{labels_in, rows_in}
 
--- A table of zeros reads zero everywhere.
-pub zeros_at : (n i : ℕ) → ◌≡◌ {A = ℕ} (get_or (replicate n 0) i 0) 0
-zeros_at n i = ⊎_elim (λ h. get_or-replicate n i 0 0 h) (λ h. get_or_past (replicate n 0) i 0 (omega (arith, length-replicate {A = ℕ} n 0))) (cases_lt i n)
+-- There is a label for each state.
+pub names : (m : Machine) → length (labels_in m.positions.items) ≡ length m.positions.items
+names m = length-map m.positions.items _
 
-pub zeros_link : (n s t : ℕ) → member (get_or (replicate n 0) s 0) t ≡ false
-zeros_link n s t = ap (λ (x : ℕ). member x t) (zeros_at n s) ∙ member_none t
+-- No move leads from or to a state that is not there.
+pub not_from : (m : Machine) (s t : ℕ) → length m.positions.items ≤ s → linked m s t ≡ false
+not_from m s t out = ⊎_elim (λ e. absurd (let z = linked_from m s t e in omega arith)) (λ e. e) (cases_Bool (linked m s t))
 
--- What holds of each entry of a table, and of a value, holds after the value is written.
-pub set_keeps : (P : ℕ → Type 0) (xs : List ℕ) (i v : ℕ) → i < length xs → P v → ((k : ℕ) → P (get_or xs k 0)) → (k : ℕ) → P (get_or (set xs i v) k 0)
-set_keeps P xs i v lt new old k =
-    ⊎_elim (λ e. subst (λ (n : ℕ). P (get_or (set xs i v) n 0)) (sym e) (subst P (sym (get_or-set_same xs i v 0 lt)) new))
-    (λ ne. subst P (sym (get_or-set_other xs i k v 0 ne)) (old k)) (cases_eq k i)
+pub not_into : (m : Machine) (s t : ℕ) → length m.positions.items ≤ t → linked m s t ≡ false
+not_into m s t out = ⊎_elim (λ e. absurd (let z = m.within s t e in omega arith)) (λ e. e) (cases_Bool (linked m s t))
 
--- The rows below k have the states of `to` besides, where they are in `from`; the others are as they were.
-abbrev pub Linked : List ℕ → List ℕ → ℕ → ℕ → ℕ → Type 0
-Linked old new from to k =
-    (length new ≡ 32) × ((s : ℕ) → get_or new s 0 ≡ cond (ltb s k && member from s) (bit_or (get_or old s 0) to) (get_or old s 0))
+pub ruleset no_move = (not_from, not_into)
 
-pub linked_none : (old : List ℕ) (from to : ℕ) → length old ≡ 32 → Linked old old from to 0
-linked_none old from to long = (long, λ s. sym (cond-false _ _ _ (ap (λ (b : Bool). b && member from s) (le-ltb s 0 (omega arith)))))
+-- A slice that was lent whole and given back as long as it was is the list then.
+pub given_back : (xs ws : List Position) → length ws ≡ length xs → refill (length xs) xs ws ≡ ws
+given_back xs ws e = grind (arith, common_steps)
 
--- The row of a state is not reached by the loop but at its turn.
-linked_other : (old new new' : List ℕ) (from to k s : ℕ) → get_or new' s 0 ≡ get_or new s 0 → ltb s (k + 1) && member from s ≡ ltb s k && member from s → get_or new s 0 ≡ cond (ltb s k && member from s) (bit_or (get_or old s 0) to) (get_or old s 0) → get_or new' s 0 ≡ cond (ltb s (k + 1) && member from s) (bit_or (get_or old s 0) to) (get_or old s 0)
-linked_other old new new' from to k s same test is = same ∙ is ∙ ap (λ (b : Bool). cond b (bit_or (get_or old s 0) to) (get_or old s 0)) (sym test)
+-- A row of nothing at the end names nothing.
+pub push_zero : (rs : List ℕ) (s : ℕ) → ◌≡◌ {A = ℕ} (get_or (rs ++ 0 ∷ []) s 0) (get_or rs s 0)
+push_zero rs s = grind (arith, common_steps)
 
-test_other : (k s : ℕ) (b : Bool) → (s ≡ k → ⊥) → (ltb s (k + 1) && b) ≡ (ltb s k && b)
-test_other k s b ne = ap (λ (x : Bool). x && b) (⊎_elim (λ h. lt-ltb s (k + 1) (omega arith) ∙ sym (lt-ltb s k h)) (λ h. le-ltb s (k + 1) (omega arith) ∙ sym (le-ltb s k h)) (cases_lt s k))
+pub push_row : (ps : List Position) (p : Position) → p.next ≡ 0 → (s t : ℕ) → member (get_or (rows_in (ps ++ p ∷ [])) s 0) t ≡ member (get_or (rows_in ps) s 0) t
+push_row ps p none s t = ap (λ rs. member (get_or rs s 0) t) (map-append (λ q. q.next) ps (p ∷ []) ∙ ap (λ n. rows_in ps ++ n ∷ []) none) ∙ ap (λ (x : ℕ). member x t) (push_zero (rows_in ps) s)
 
-pub linked_in : (old new : List ℕ) (from to k : ℕ) → k < 32 → member from k ≡ true → Linked old new from to k → Linked old (set new k (bit_or (get_or new k 0) to)) from to (k + 1)
-linked_in old new from to k lt there sofar = (
-  length-set new k _ ∙ sofar.0,
-  λ s.
-      ⊎_elim
-      (λ e.
-      subst (λ (n : ℕ). get_or (set new k (bit_or (get_or new k 0) to)) n 0 ≡ cond (ltb n (k + 1) && member from n) (bit_or (get_or old n 0) to) (get_or old n 0)) (sym e)
-      (get_or-set_same new k _ 0 (omega (arith, sofar.0)) ∙ ap (λ (x : ℕ). bit_or x to) (sofar.1 k ∙ cond-false _ _ _ (ap (λ (b : Bool). b && member from k) (le-ltb k k (omega arith))))
-      ∙ sym (cond-true _ _ _ (ap (λ (b : Bool). b && member from k) (lt-ltb k (k + 1) (omega arith)) ∙ there))))
-      (λ ne. linked_other old new _ from to k s (get_or-set_other new k s _ 0 ne) (test_other k s (member from s) ne) (sofar.1 s))
-      (cases_eq s k),
-)
-
-pub linked_out : (old new : List ℕ) (from to k : ℕ) → member from k ≡ false → Linked old new from to k → Linked old new from to (k + 1)
-linked_out old new from to k there sofar = (
-  sofar.0,
-  λ s.
-      ⊎_elim
-      (λ e. linked_other old new new from to k s refl (same e) (sofar.1 s))
-      (λ ne. linked_other old new new from to k s refl (test_other k s (member from s) ne) (sofar.1 s))
-      (cases_eq s k),
-)
+-- Labels stay small where a small one is put after them.
+pub push_small : (ps : List Position) (p : Position) (t : ℕ) → ((s : ℕ) → get_or (labels_in ps) s 0 ≤ 15) → p.label ≤ 15 → get_or (labels_in (ps ++ p ∷ [])) t 0 ≤ 15
+push_small ps p t sofar small = rw (map-append (λ q. q.label) ps (p ∷ [])) (at_end (labels_in ps) p.label t (sofar t) small)
   where
-    never : (a : Bool) → (a && false) ≡ false
-    never true = refl
-    never false = refl
+    at_end : (ls : List ℕ) (l t : ℕ) → get_or ls t 0 ≤ 15 → l ≤ 15 → get_or (ls ++ l ∷ []) t 0 ≤ 15
+    at_end ls l t a b = grind (arith, common_steps)
 
-    same : {s : ℕ} → s ≡ k → (ltb s (k + 1) && member from s) ≡ (ltb s k && member from s)
-    same {s} e =
-        let out : member from s ≡ false = subst (λ (n : ℕ). member from n ≡ false) (sym e) there in
-        ap (λ (b : Bool). ltb s (k + 1) && b) out ∙ never (ltb s (k + 1)) ∙ sym (ap (λ (b : Bool). ltb s k && b) out ∙ never (ltb s k))
+-- The rows below k have the states of `to` besides, where they are in `from`; all else is as it was.
+pub record Linked (old new : List Position) (from to k : ℕ) : Type 0 where
+  pub places : length new ≡ length old
+  pub labels : labels_in new ≡ labels_in old
+  pub rows : (s t : ℕ) → member (get_or (rows_in new) s 0) t ≡ (member (get_or (rows_in old) s 0) t || ((ltb s k && member from s) && member to t))
 
-pub linked_all : (old new : List ℕ) (from to k : ℕ) → from < 2 ^ 32 → 32 ≤ k → Linked old new from to k → (s t : ℕ) → member (get_or new s 0) t ≡ (member (get_or old s 0) t || (member from s && member to t))
-linked_all old new from to k small done sofar s t = ⊎_elim inside outside (cases_Bool (member from s))
+-- One place more: its label stays, and its set of next states has those of `to` besides where it is in `from`.
+pub link_one : (old new : List Position) (from to k : ℕ) (p d : Position) → Linked old new from to k → k < length old → p.label ≡ (get_or new k d).label → ((j : ℕ) → member p.next j ≡ (member (get_or new k d).next j || (member from k && member to j))) → Linked old (set new k p) from to (k + 1)
+link_one old new from to k p d sofar here label next = record {
+  places = length-set new k p ∙ sofar.places;
+  labels = map-set_same (λ q. q.label) new k p d label ∙ sofar.labels;
+  rows = λ s t. ap (λ rs. member (get_or rs s 0) t) (map-set (λ q. q.next) new k p) ∙ ⊎_elim (λ e. rw e (at_k t)) (elsewhere s t) (cases_eq s k);
+}
   where
-    or_false : (a : Bool) → (a || false) ≡ a
-    or_false true = refl
-    or_false false = refl
+    at_k : (t : ℕ) → member (get_or (set (rows_in new) k p.next) k 0) t ≡ (member (get_or (rows_in old) k 0) t || ((ltb k (k + 1) && member from k) && member to t))
+    at_k t =
+        ap (λ (x : ℕ). member x t) (get_or-set_same (rows_in new) k p.next 0 (omega (arith, length-map new (λ q. q.next), sofar.places)))
+        ∙ next t ∙ ap (λ (x : ℕ). member x t || (member from k && member to t)) (sym (get_or-map (λ q. q.next) new k d 0 (omega (arith, sofar.places))))
+        ∙ ap (λ (b : Bool). b || (member from k && member to t)) (sofar.rows k t) ∙ settle (member (get_or (rows_in old) k 0) t) (member to t) (member from k)
+      where
+        settle : (a b c : Bool) → ((a || ((ltb k k && c) && b)) || (c && b)) ≡ (a || ((ltb k (k + 1) && c) && b))
+        settle a b c = grind (arith, nat_tests)
 
-    inside : member from s ≡ true → member (get_or new s 0) t ≡ (member (get_or old s 0) t || (member from s && member to t))
-    inside e =
-        let below : s < 32 = ⊎_elim (λ h. h) (λ h. absurd (both_ways _ (member_above from s small h) e)) (cases_lt s 32) in
-        ap (λ (x : ℕ). member x t) (sofar.1 s ∙ cond-true _ _ _ (ap (λ (b : Bool). b && member from s) (lt-ltb s k (omega arith)) ∙ e))
-        ∙ member_or (get_or old s 0) to t ∙ ap (λ (b : Bool). member (get_or old s 0) t || (b && member to t)) (sym e)
+    elsewhere : (s t : ℕ) → s ≢ k → member (get_or (set (rows_in new) k p.next) s 0) t ≡ (member (get_or (rows_in old) s 0) t || ((ltb s (k + 1) && member from s) && member to t))
+    elsewhere s t other =
+        ap (λ (x : ℕ). member x t) (get_or-set_other (rows_in new) k s p.next 0 other) ∙ sofar.rows s t
+        ∙ settle (member (get_or (rows_in old) s 0) t) (member to t) (member from s)
+      where
+        settle : (a b c : Bool) → (a || ((ltb s k && c) && b)) ≡ (a || ((ltb s (k + 1) && c) && b))
+        settle a b c = grind (arith, nat_tests, other)
 
-    never : (a : Bool) → (a && false) ≡ false
-    never true = refl
-    never false = refl
+-- Which is so where the code joins them in, and where it leaves the place alone.
+pub joined : (x a b c : Bool) → x ≡ (a || b) → c ≡ true → x ≡ (a || (c && b))
+joined x a b c e f = grind (arith, nat_tests)
 
-    outside : member from s ≡ false → member (get_or new s 0) t ≡ (member (get_or old s 0) t || (member from s && member to t))
-    outside e =
-        ap (λ (x : ℕ). member x t) (sofar.1 s ∙ cond-false _ _ _ (ap (λ (b : Bool). ltb s k && b) e ∙ never (ltb s k)))
-        ∙ sym (or_false (member (get_or old s 0) t)) ∙ ap (λ (b : Bool). member (get_or old s 0) t || (b && member to t)) (sym e)
+pub left_alone : (a b c : Bool) → c ≡ false → a ≡ (a || (c && b))
+left_alone a b c f = grind (arith, nat_tests)
 
--- After a write of the first row, a member of a row is one of the new row or of an old one.
-pub row_cases : (follow : List ℕ) (first s t : ℕ) → 0 < length follow → member (get_or (set follow 0 first) s 0) t ≡ true → ((s ≡ 0) × (member first t ≡ true)) ⊎ (member (get_or follow s 0) t ≡ true)
-row_cases follow first s t some e =
+-- At the end the test of the place falls away, since no state from 32 on is in `from`.
+pub linked_all : (old new : List Position) (from to k : ℕ) → ((s : ℕ) → member from s ≡ true → s < k) → Linked old new from to k → (s t : ℕ) → member (get_or (rows_in new) s 0) t ≡ (member (get_or (rows_in old) s 0) t || (member from s && member to t))
+linked_all old new from to k within done s t = done.rows s t ∙ settle (member (get_or (rows_in old) s 0) t) (member to t) (member from s) (within s)
+  where
+    settle : (a b c : Bool) → (c ≡ true → s < k) → (a || ((ltb s k && c) && b)) ≡ (a || (c && b))
+    settle a b c h = grind (arith, nat_tests)
+
+-- A next state of a table after one place was put in is one of that place, or one of the table before.
+pub row_cases : (ps : List Position) (k : ℕ) (p : Position) (s t : ℕ) → k < length ps → member (get_or (rows_in (set ps k p)) s 0) t ≡ true → ((s ≡ k) × (member p.next t ≡ true)) ⊎ (member (get_or (rows_in ps) s 0) t ≡ true)
+row_cases ps k p s t inside e =
     ⊎_elim
-    (λ z. inl (z, ap (λ (x : ℕ). member x t) (sym (get_or-set_same follow 0 first 0 some)) ∙ subst (λ (n : ℕ). member (get_or (set follow 0 first) n 0) t ≡ true) z e))
-    (λ ne. inr (ap (λ (x : ℕ). member x t) (sym (get_or-set_other follow 0 s first 0 ne)) ∙ e)) (cases_eq s 0)
+    (λ same. inl (same, ap (λ (x : ℕ). member x t) (sym (get_or-set_same rs k p.next 0 within)) ∙ subst (λ x. member (get_or (set rs k p.next) x 0) t ≡ true) same e'))
+    (λ other. inr (ap (λ (x : ℕ). member x t) (sym (get_or-set_other rs k s p.next 0 other)) ∙ e')) (cases_eq s k)
+  where
+    rs : List ℕ
+    rs = rows_in ps
+
+    within : k < length rs
+    within = omega (arith, length-map ps (λ q. q.next))
+
+    e' : member (get_or (set rs k p.next) s 0) t ≡ true
+    e' = ap (λ xs. member (get_or xs s 0) t) (sym (map-set (λ q. q.next) ps k p)) ∙ e

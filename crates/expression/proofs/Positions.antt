@@ -5,7 +5,7 @@ use Rattle.masks.specs.Members.{member}
 use Rattle.expression.specs.declared.machine.Machine.{Machine}
 use Rattle.expression.specs.declared.part.Part.{Part}
 use Rattle.expression.specs.Language.{Tree, letter, either, then, star, plus, maybe}
-use Rattle.expression.specs.Machines.{linked}
+use Rattle.expression.specs.Machines.{linked, letters_in}
 use Rattle.expression.specs.Parts.{Either, Then, optional}
 use Rattle.expression.specs.Positions.{letter_count, comes_first, comes_last, comes_after}
 use Rattle.expression.specs.Readers.{Exact}
@@ -42,7 +42,7 @@ or_false true = refl
 or_false false = refl
 
 -- A letter.
-pub exact_letter : (m : Machine) (lo k l own : ℕ) → k ≡ lo + 1 → m.letters ≡ k → ((x : ℕ) → member own x ≡ eqb x k) → ((x : ℕ) → linked m k x ≡ false) → Exact m lo (record { nullable = false; first = own; last = own }) (letter l)
+pub exact_letter : (m : Machine) (lo k l own : ℕ) → k ≡ lo + 1 → (letters_in m) ≡ k → ((x : ℕ) → member own x ≡ eqb x k) → ((x : ℕ) → linked m k x ≡ false) → Exact m lo (record { nullable = false; first = own; last = own }) (letter l)
 exact_letter m lo k l own next letters is still = record {
   count = omega arith;
   nullable = refl;
@@ -52,8 +52,8 @@ exact_letter m lo k l own next letters is still = record {
 }
 
 -- Two parts, the second after the first: which of their moves is which.
-module _ (m1 m2 : Machine) (lo : ℕ) (p q : Part) (s t : Tree) (front : Exact m1 lo p s) (back : Exact m2 m1.letters q t) (kept : (y x : ℕ) → y ≤ m1.letters → linked m2 y x ≡ linked m1 y x) where
-  at_mid : m1.letters ≡ lo + letter_count s
+module _ (m1 m2 : Machine) (lo : ℕ) (p q : Part) (s t : Tree) (front : Exact m1 lo p s) (back : Exact m2 (letters_in m1) q t) (kept : (y x : ℕ) → y ≤ (letters_in m1) → linked m2 y x ≡ linked m1 y x) where
+  at_mid : (letters_in m1) ≡ lo + letter_count s
   at_mid = front.count
 
   back_first : (x : ℕ) → member q.first x ≡ comes_first t (lo + letter_count s) x
@@ -62,18 +62,18 @@ module _ (m1 m2 : Machine) (lo : ℕ) (p q : Part) (s t : Tree) (front : Exact m
   back_last : (x : ℕ) → member q.last x ≡ comes_last t (lo + letter_count s) x
   back_last x = back.last x ∙ ap (λ k. comes_last t k x) at_mid
 
-  both_after : (y x : ℕ) → lo < y → y ≤ m2.letters → linked m2 y x ≡ (comes_after s lo y x || comes_after t (lo + letter_count s) y x)
+  both_after : (y x : ℕ) → lo < y → y ≤ (letters_in m2) → linked m2 y x ≡ (comes_after s lo y x || comes_after t (lo + letter_count s) y x)
   both_after y x a b =
       ⊎_elim
-      (λ (high : m1.letters < y).
+      (λ (high : (letters_in m1) < y).
       back.after y x high b ∙ ap (λ k. comes_after t k y x) at_mid
       ∙ ap (λ (c : Bool). c || comes_after t (lo + letter_count s) y x) (sym (after_out s lo y x (λ r. omega (arith, r.1, at_mid)))))
-      (λ (low : y ≤ m1.letters).
+      (λ (low : y ≤ (letters_in m1)).
       kept y x low ∙ front.after y x a low ∙ sym (or_false (comes_after s lo y x))
       ∙ ap (λ (c : Bool). comes_after s lo y x || c) (sym (after_out t (lo + letter_count s) y x (λ r. omega (arith, r.0, at_mid)))))
-      (cases_lt m1.letters y)
+      (cases_lt (letters_in m1) y)
 
-  both_count : m2.letters ≡ lo + (letter_count s + letter_count t)
+  both_count : (letters_in m2) ≡ lo + (letter_count s + letter_count t)
   both_count = omega (arith, front.count, back.count)
 
   pub exact_either : (x : Part) → Either p q x → Exact m2 lo x (either s t)
@@ -85,7 +85,7 @@ module _ (m1 m2 : Machine) (lo : ℕ) (p q : Part) (s t : Tree) (front : Exact m
     after = both_after;
   }
 
-  pub exact_then : (m : Machine) (x : Part) → m.letters ≡ m2.letters → ((y z : ℕ) → linked m y z ≡ (linked m2 y z || (member p.last y && member q.first z))) → Then p q x → Exact m lo x (then s t)
+  pub exact_then : (m : Machine) (x : Part) → (letters_in m) ≡ (letters_in m2) → ((y z : ℕ) → linked m y z ≡ (linked m2 y z || (member p.last y && member q.first z))) → Then p q x → Exact m lo x (then s t)
   exact_then m x letters follow e = record {
     count = letters ∙ both_count;
     nullable = e.nullable ∙ (λ i. front.nullable i && back.nullable i);
@@ -95,8 +95,8 @@ module _ (m1 m2 : Machine) (lo : ℕ) (p q : Part) (s t : Tree) (front : Exact m
   }
 
 -- A part again and again.
-module _ (m m' : Machine) (lo : ℕ) (p : Part) (t : Tree) (exact : Exact m lo p t) (letters : m'.letters ≡ m.letters) (follow : (y z : ℕ) → linked m' y z ≡ (linked m y z || (member p.last y && member p.first z))) where
-  again_after : (y z : ℕ) → lo < y → y ≤ m'.letters → linked m' y z ≡ (comes_after t lo y z || (comes_last t lo y && comes_first t lo z))
+module _ (m m' : Machine) (lo : ℕ) (p : Part) (t : Tree) (exact : Exact m lo p t) (letters : (letters_in m') ≡ (letters_in m)) (follow : (y z : ℕ) → linked m' y z ≡ (linked m y z || (member p.last y && member p.first z))) where
+  again_after : (y z : ℕ) → lo < y → y ≤ (letters_in m') → linked m' y z ≡ (comes_after t lo y z || (comes_last t lo y && comes_first t lo z))
   again_after y z a b = follow y z ∙ (λ i. exact.after y z a (omega (arith, letters)) i || (exact.last y i && exact.first z i))
 
   pub exact_plus : Exact m' lo p (plus t)

@@ -1,6 +1,6 @@
 -- What each reader has read: how the parts of an expression come together, in the grammar and in the machine.
-use Rattle.std.proofs.Common.{◌≡◌, ℕ, ◌+◌, ◌-◌, ◌<◌, ◌≤◌, Bool, true, false, ◌&&◌, ◌||◌, eqb, ltb, ◌⊎◌, List, [], ◌∷◌, length, get_or, drop, set, Some, None, Ok, Err, Option, Result, sym, refl, ap, ◌∙◌, subst, inl, inr, ⊎_elim, arith}
-use Rattle.std.proofs.lemmas.List.{get_or-set_same, get_or-set_other}
+use Rattle.std.proofs.Common.{◌≡◌, ℕ, ◌+◌, ◌-◌, ◌<◌, ◌≤◌, Bool, true, false, ◌&&◌, ◌||◌, eqb, ltb, ◌⊎◌, List, [], ◌∷◌, ◌++◌, length, get_or, drop, Some, None, Ok, Err, Option, Result, sym, refl, ap, ◌∙◌, subst, inl, inr, ⊎_elim, arith}
+use Rattle.std.proofs.lemmas.List.{get_or_append_left, get_or_push, length-append}
 use Rattle.std.proofs.lemmas.Bool.{or_right, and_from, false≢true, cases_Bool, cond-false, cond-true, ne_eqb, eq-eqb, lt-ltb}
 use Rattle.masks.specs.Members.{member, with_member}
 use Rattle.masks.proofs.Laws.{member_none}
@@ -13,7 +13,10 @@ use Rattle.expression.specs.declared.symbol.Symbol.TheVariants.{Letter, Open, Cl
 use Rattle.expression.specs.Fragments.{Fragment}
 use Rattle.expression.specs.Grammar.{Expression, Sequence, Piece, Atom, Repeats, bar_next, piece_next, piece, letter_atom, group_atom, done, star_next, plus_next, maybe_next}
 use Rattle.expression.specs.Language.{Tree, Language, letter, either, then, star, plus, maybe}
-use Rattle.expression.specs.Machines.{linked, label_of}
+use Rattle.expression.proofs.Machines.{names, not_from, push_zero}
+use Rattle.expression.specs.Rows.{labels_in, rows_in}
+use Rattle.expression.specs.Built.{Links}
+use Rattle.expression.specs.Machines.{linked, label_of, letters_in}
 use Rattle.expression.specs.Parts.{Within, Either, Then, optional}
 use Rattle.expression.specs.Readers.{left, scan_at, ahead, Went, Kept, Spells, Exact, ReadPart, RepeatedPart, Read, Repeated, Peeked, Stops, begins_piece, after_piece, after_sequence}
 use Rattle.expression.specs.Scan.{objection, onward, spoken, verdict, judged}
@@ -34,12 +37,6 @@ closed r = record { words = r.words; place = r.place + 1; depth = r.depth - 1; m
 
 abbrev pub relinked : Reader → Machine → Reader
 relinked r m = record { words = r.words; place = r.place; depth = r.depth; machine = m }
-
--- What a call of `link` says of the machine.
-pub record Links (m m' : Machine) (from to : ℕ) : Type 0 where
-  pub letters : m'.letters ≡ m.letters
-  pub labels : m'.labels ≡ m.labels
-  pub follow : (s t : ℕ) → linked m' s t ≡ (linked m s t || (member from s && member to t))
 
 kept_on : {k k' : ℕ} {m m' m'' : Machine} → k ≤ k' → Kept k m m' → Kept k' m' m'' → Kept k m m''
 kept_on le p q = record {
@@ -62,33 +59,36 @@ kept_link {k} {m} {m'} {from} {to} links after = record {
     or_false false = refl
 
 -- A part that was read stays a fragment while later letters are read.
-spells_kept : (m m' : Machine) (lo : ℕ) (p : Part) (t : Tree) → Kept m.letters m m' → Spells m lo p t → Fragment (linked m') (label_of m') lo m.letters p (Language t)
+spells_kept : (m m' : Machine) (lo : ℕ) (p : Part) (t : Tree) → Kept (letters_in m) m m' → Spells m lo p t → Fragment (linked m') (label_of m') lo (letters_in m) p (Language t)
 spells_kept m m' lo p t kept f =
-    fragment_kept (linked m) (linked m') (label_of m) (label_of m') lo m.letters p (Language t) (record { moves = λ s u a b. kept.moves s u b; labels = λ u a b. kept.labels u b }) f
+    fragment_kept (linked m) (linked m') (label_of m) (label_of m') lo (letters_in m) p (Language t) (record { moves = λ s u a b. kept.moves s u b; labels = λ u a b. kept.labels u b }) f
 
 -- New moves do not change the labels.
-relabel : (m m' : Machine) (G : ℕ → ℕ → Bool) (lo hi : ℕ) (p : Part) (P : List ℕ → Type 0) → m'.labels ≡ m.labels → Fragment G (label_of m) lo hi p P → Fragment G (label_of m') lo hi p P
+relabel : (m m' : Machine) (G : ℕ → ℕ → Bool) (lo hi : ℕ) (p : Part) (P : List ℕ → Type 0) → (labels_in m'.positions.items) ≡ (labels_in m.positions.items) → Fragment G (label_of m) lo hi p P → Fragment G (label_of m') lo hi p P
 relabel m m' G lo hi p P e f = fragment_kept G G (label_of m) (label_of m') lo hi p P (record { moves = λ s t a b. refl; labels = λ t a b. ap (λ xs. get_or xs t 0) e }) f
 
 -- A letter.
-pub read_letter : (r : Reader) (m : Machine) (l own k : ℕ) → Peeked r (Ok (Some (Letter l))) → r.machine.letters < 31 → k ≡ r.machine.letters + 1 → m.letters ≡ k → m.labels ≡ set r.machine.labels k l → m.follow ≡ r.machine.follow → ((j : ℕ) → member own j ≡ with_member 0 k j) → ReadPart Atom r (record { words = r.words; place = r.place + 1; depth = r.depth; machine = m }) (record { nullable = false; first = own; last = own })
-read_letter r m l own k peek room next letters labels follow is = record {
-  went = went_letter r _ l peek (record { words = refl; place = refl }) room refl (letters ∙ next) (labels ∙ ap (λ n. set r.machine.labels n l) next);
+pub read_letter : (r : Reader) (m : Machine) (l own k : ℕ) → Peeked r (Ok (Some (Letter l))) → letters_in r.machine < 31 → k ≡ letters_in r.machine + 1 → labels_in m.positions.items ≡ labels_in r.machine.positions.items ++ l ∷ [] → rows_in m.positions.items ≡ rows_in r.machine.positions.items ++ 0 ∷ [] → ((j : ℕ) → member own j ≡ with_member 0 k j) → ReadPart Atom r (record { words = r.words; place = r.place + 1; depth = r.depth; machine = m }) (record { nullable = false; first = own; last = own })
+read_letter r m l own k peek room next labels rows is = record {
+  went = went_letter r _ l peek (record { words = refl; place = refl }) room refl (letters ∙ next) labels;
   depth = refl;
   further = omega arith;
   kept = record {
-    moves = λ s t h. ap (λ xs. member (get_or xs s 0) t) follow;
-    labels = λ t h. ap (λ xs. get_or xs t 0) labels ∙ get_or-set_other r.machine.labels k t l 0 (omega arith);
+    moves = λ s t h. ap (λ xs. member (get_or xs s 0) t) rows ∙ ap (λ (x : ℕ). member x t) (push_zero (rows_in r.machine.positions.items) s);
+    labels = λ t h. ap (λ xs. get_or xs t 0) labels ∙ get_or_append_left (labels_in r.machine.positions.items) (l ∷ []) 0 t (omega (arith, names r.machine, r.machine.start));
   };
   tree = letter l;
   derived = subst (λ ws. Atom ws (drop (r.place + 1) r.words.now) (letter l)) (sym peek.1) (letter_atom peek.2);
   fragment =
-      subst (λ n. Fragment (linked m) (label_of m) r.machine.letters n (record { nullable = false; first = own; last = own }) (λ w. w ≡ l ∷ [])) (sym letters)
-      (fragment_letter (linked m) (label_of m) r.machine.letters k l (record { nullable = false; first = own; last = own }) next refl (alone own k is) (alone own k is) there there
-      (ap (λ xs. get_or xs k 0) labels ∙ get_or-set_same r.machine.labels k l 0 (omega (arith, r.machine.names))) still);
-  exact = exact_letter m r.machine.letters k l own next letters own_is still;
+      subst (λ n. Fragment (linked m) (label_of m) (letters_in r.machine) n (record { nullable = false; first = own; last = own }) (λ w. w ≡ l ∷ [])) (sym letters)
+      (fragment_letter (linked m) (label_of m) (letters_in r.machine) k l (record { nullable = false; first = own; last = own }) next refl (alone own k is) (alone own k is) there there
+      (ap (λ xs. get_or xs k 0) labels ∙ get_or_push (labels_in r.machine.positions.items) l 0 k (omega (arith, names r.machine, r.machine.start))) still);
+  exact = exact_letter m (letters_in r.machine) k l own next letters own_is still;
 }
   where
+    letters : letters_in m ≡ k
+    letters = omega (arith, ap length labels, names m, names r.machine, length-append (labels_in r.machine.positions.items) (l ∷ []), r.machine.start)
+
     there : member own k ≡ true
     there = is k ∙ or_right (member 0 k) _ (and_from _ _ (lt-ltb k 32 (omega arith)) (eq-eqb k k refl))
 
@@ -98,7 +98,8 @@ read_letter r m l own k peek room next letters labels follow is = record {
 
     still : (t : ℕ) → linked m k t ≡ false
     still t =
-        ⊎_elim (λ e. absurd (let q = r.machine.from k t (ap (λ xs. member (get_or xs k 0) t) (sym follow) ∙ e) in omega arith)) (λ e. e) (cases_Bool (linked m k t))
+        ap (λ xs. member (get_or xs k 0) t) rows ∙ ap (λ (x : ℕ). member x t) (push_zero (rows_in r.machine.positions.items) k)
+        ∙ not_from r.machine k t (omega (arith, r.machine.start))
 
 -- A group.
 pub read_group : (r r1 : Reader) (p : Part) → Peeked r (Ok (Some Open)) → r.depth < 16 → ReadPart Expression (opened r) r1 p → Peeked r1 (Ok (Some Close)) → ReadPart Atom r (closed r1) p
@@ -125,11 +126,11 @@ read_piece r r1 r2 p q atom repeats =
       went = went_on atom.went repeats.went;
       depth = repeats.depth ∙ atom.depth;
       further = omega (arith, atom.further, repeats.went.place);
-      kept = kept_on (omega arith) atom.kept (repeats.kept r.machine.letters atom.fragment.own);
+      kept = kept_on (omega arith) atom.kept (repeats.kept (letters_in r.machine) atom.fragment.own);
       tree = grown.tree;
       derived = piece atom.derived grown.derived;
-      fragment = grown.fragment r.machine.letters atom.fragment;
-      exact = grown.exact r.machine.letters atom.exact;
+      fragment = grown.fragment (letters_in r.machine) atom.fragment;
+      exact = grown.exact (letters_in r.machine) atom.exact;
     }
 
 -- What is of one level is of the next.
@@ -206,17 +207,17 @@ read_sequence r r1 r2 m p q x front begins back links joined = record {
   depth = back.depth ∙ front.depth;
   further = omega (arith, front.further, back.further);
   kept =
-      kept_on {k' = r.machine.letters} (omega arith) (kept_on front.went.letters front.kept back.kept)
+      kept_on {k' = (letters_in r.machine)} (omega arith) (kept_on front.went.letters front.kept back.kept)
       (kept_link links (λ s e. (front.fragment.own.last s e).0));
   tree = then front.tree back.tree;
   derived = piece_next front.derived back.derived;
   fragment =
-      subst (λ n. Fragment (linked m) (label_of m) r.machine.letters n x (Language (then front.tree back.tree))) (sym links.letters)
-      (relabel r2.machine m (linked m) r.machine.letters r2.machine.letters x _ links.labels
+      subst (λ n. Fragment (linked m) (label_of m) (letters_in r.machine) n x (Language (then front.tree back.tree))) (sym links.letters)
+      (relabel r2.machine m (linked m) (letters_in r.machine) (letters_in r2.machine) x _ links.labels
       (fragment_then front.went.letters back.went.letters
-      (spells_kept r1.machine r2.machine r.machine.letters p front.tree back.kept front.fragment) back.fragment (record { moves = links.follow }) joined));
+      (spells_kept r1.machine r2.machine (letters_in r.machine) p front.tree back.kept front.fragment) back.fragment (record { moves = links.follow }) joined));
   exact =
-      exact_then r1.machine r2.machine r.machine.letters p q front.tree back.tree front.exact back.exact (λ y z h. back.kept.moves y z h) m x links.letters links.follow joined;
+      exact_then r1.machine r2.machine (letters_in r.machine) p q front.tree back.tree front.exact back.exact (λ y z h. back.kept.moves y z h) m x links.letters links.follow joined;
 }
 
 -- A sequence, a bar and an expression.
@@ -230,9 +231,9 @@ read_expression r r1 r2 p q x left_part bar_word right_part joined = record {
   derived = bar_next (subst (λ ws. Sequence (left r) ws left_part.tree) bar_word.1 left_part.derived) bar_word.2 right_part.derived;
   fragment =
       fragment_either left_part.went.letters right_part.went.letters
-      (spells_kept r1.machine r2.machine r.machine.letters p left_part.tree right_part.kept left_part.fragment) right_part.fragment joined;
+      (spells_kept r1.machine r2.machine (letters_in r.machine) p left_part.tree right_part.kept left_part.fragment) right_part.fragment joined;
   exact =
-      exact_either r1.machine r2.machine r.machine.letters p q left_part.tree right_part.tree left_part.exact right_part.exact (λ y z h. right_part.kept.moves y z h) x joined;
+      exact_either r1.machine r2.machine (letters_in r.machine) p q left_part.tree right_part.tree left_part.exact right_part.exact (λ y z h. right_part.kept.moves y z h) x joined;
 }
 
 -- No repeat more.
@@ -250,10 +251,10 @@ pub record Repeat (r : Reader) (m : Machine) (y : Symbol) (T : Tree → Tree) (p
   pub good : objection (scan_at r false) y ≡ None
   pub same : scan_at r false ≡ onward (scan_at r false) y
   pub silent : spoken (Some y) ≡ []
-  pub letters : m.letters ≡ r.machine.letters
-  pub labels : m.labels ≡ r.machine.labels
-  pub kept : (lo : ℕ) → Within lo r.machine.letters p → Kept lo r.machine m × Within lo r.machine.letters p'
-  pub grow : (s : Tree) (lo : ℕ) → Spells r.machine lo p s → Fragment (linked m) (label_of r.machine) lo r.machine.letters p' (Language (T s))
+  pub letters : (letters_in m) ≡ (letters_in r.machine)
+  pub labels : (labels_in m.positions.items) ≡ (labels_in r.machine.positions.items)
+  pub kept : (lo : ℕ) → Within lo (letters_in r.machine) p → Kept lo r.machine m × Within lo (letters_in r.machine) p'
+  pub grow : (s : Tree) (lo : ℕ) → Spells r.machine lo p s → Fragment (linked m) (label_of r.machine) lo (letters_in r.machine) p' (Language (T s))
   pub exact : (s : Tree) (lo : ℕ) → Exact r.machine lo p s → Exact m lo p' (T s)
   pub derive : {w : ℕ} {ws rest : List ℕ} {s t : Tree} → symbol_of w ≡ Some y → Repeats ws rest (T s) t → Repeats (w ∷ ws) rest s t
 
@@ -275,7 +276,7 @@ repeated_next r r2 m y T p p' q one rest = record {
         fragment = λ lo f.
             g.fragment lo
             (subst (λ n. Fragment (linked m) (label_of m) lo n p' (Language (T s))) (sym one.letters)
-            (relabel r.machine m (linked m) lo r.machine.letters p' (Language (T s)) one.labels (one.grow s lo f)));
+            (relabel r.machine m (linked m) lo (letters_in r.machine) p' (Language (T s)) one.labels (one.grow s lo f)));
         exact = λ lo x. g.exact lo (one.exact s lo x);
       };
 }

@@ -1,7 +1,8 @@
 -- An expression read whole: its fault, and the labels of its states.
-use Rattle.std.proofs.Common.{◌≡◌, ℕ, ◌+◌, ◌<◌, ◌≤◌, Bool, true, false, cond, ◌&&◌, ◌||◌, eqb, ◌⊎◌, List, [], ◌∷◌, ◌++◌, length, get_or, take, drop, Some, None, sym, refl, ap, ◌∙◌, subst, ⊎_elim, append-nil, add-one, arith, length-drop, length-take-le, get_or-take}
-use Rattle.std.proofs.lemmas.List.{drop_all, take_more}
-use Rattle.std.proofs.lemmas.Bool.{eq-eqb, ne_eqb, lt-ltb, le-ltb, false≢true, or_from, or_left, or_right, cases_lt, cases_Bool}
+use Rattle.std.proofs.Common.{◌≡◌, ℕ, ◌+◌, ◌<◌, ◌≤◌, Bool, true, false, cond, ◌&&◌, ◌||◌, eqb, ◌⊎◌, List, [], ◌∷◌, ◌++◌, length, get_or, drop, Some, None, sym, refl, ap, ◌∙◌, subst, ⊎_elim, append-nil, add-one, arith, length-drop}
+use Rattle.std.proofs.lemmas.Grind.{common_steps}
+use Rattle.std.proofs.lemmas.List.{drop_all}
+use Rattle.std.proofs.lemmas.Bool.{eq-eqb, ne_eqb, lt-ltb, le-ltb, false≢true, or_from, or_left, or_right, cases_lt}
 use Rattle.expression.specs.declared.fault.Cause.{Cause}
 use Rattle.expression.specs.declared.fault.Cause.TheVariants.{WordCount, NotAWord, NoPiece, TooManyLetters, TooDeep, Unfinished}
 use Rattle.expression.specs.declared.fault.Fault.{Fault}
@@ -11,7 +12,10 @@ use Rattle.expression.specs.declared.reader.Reader.{Reader}
 use Rattle.expression.specs.declared.symbol.Symbol.{Symbol}
 use Rattle.expression.specs.declared.symbol.Symbol.TheVariants.{Letter, Open, Close, Bar, Star, Plus, Maybe}
 use Rattle.expression.specs.Grammar.{Expression, HasTree}
-use Rattle.expression.specs.Machines.{Empty, linked, label_of}
+use Rattle.expression.proofs.Machines.{names, not_from}
+use Rattle.expression.specs.Built.{Finished}
+use Rattle.expression.specs.Rows.{labels_in}
+use Rattle.expression.specs.Machines.{Empty, linked, label_of, letters_in}
 use Rattle.expression.specs.Readers.{left, scan_at, ahead, Exact, ReadPart, Stops, after_expression}
 use Rattle.expression.specs.Fragments.{Fragment}
 use Rattle.expression.specs.Language.{Tree, Language}
@@ -19,7 +23,7 @@ use Rattle.expression.specs.Positions.{may_be_empty, comes_first, comes_last, co
 use Rattle.expression.specs.Reading.{Fills, Why, Limited, Refused}
 use Rattle.expression.specs.Scan.{verdict, start, letters_of, unless}
 use Rattle.expression.specs.Symbols.{symbol_of}
-use Rattle.expression.proofs.Accepting.{Finished, accepts_says, accepts_takes}
+use Rattle.expression.proofs.Accepting.{accepts_says, accepts_takes}
 use Rattle.expression.proofs.Positions.{after_out}
 use Rattle.expression.proofs.Refusals.{is_limit, no_tree, too_many, too_deep, not_count}
 use Rattle.expression.proofs.Scans.{verdict_stop, fault_is}
@@ -34,7 +38,7 @@ pub record Fresh (ws : List ℕ) (r : Reader) : Type 0 where
   pub empty : Empty r.machine
 
 module _ (ws : List ℕ) (r : Reader) (fresh : Fresh ws r) where
-  no_letters : r.machine.letters ≡ 0
+  no_letters : (letters_in r.machine) ≡ 0
   no_letters = omega (arith, fresh.empty.size)
 
   from_start : verdict 0 start ws ≡ ahead r true
@@ -76,12 +80,15 @@ module _ (ws : List ℕ) (r : Reader) (fresh : Fresh ws r) where
           ∙ ap (λ (b : Bool). unless r'.place (cond b (Some Unfinished) None) None) (le-ltb 0 r'.depth (omega (arith, closed)))
 
       -- The labels of the states are those of the letters, after the start's place.
-      named : take (r'.machine.letters + 1) r'.machine.labels ≡ 0 ∷ letters_of ws
+      named : labels_in r'.machine.positions.items ≡ 0 ∷ letters_of ws
       named =
-          sym (append-nil _) ∙ ap (λ us. take (r'.machine.letters + 1) r'.machine.labels ++ letters_of us) (sym nothing_left)
+          sym (append-nil _) ∙ ap (λ us. labels_in r'.machine.positions.items ++ letters_of us) (sym nothing_left)
           ∙ read.went.labels
-          ∙ (λ i. take (no_letters i + 1) r.machine.labels ++ letters_of (drop (fresh.place i) (fresh.words i)))
-          ∙ ap (λ us. us ++ letters_of ws) (take_more r.machine.labels 0 0 (omega (arith, r.machine.names)) ∙ ap (λ x. x ∷ []) (fresh.empty.labels 0))
+          ∙ (λ i. labels_in r.machine.positions.items ++ letters_of (drop (fresh.place i) (fresh.words i)))
+          ∙ ap (λ us. us ++ letters_of ws) (alone_at (labels_in r.machine.positions.items) (names r.machine ∙ fresh.empty.size) ∙ ap (λ x. x ∷ []) (fresh.empty.labels 0))
+        where
+          alone_at : (xs : List ℕ) → length xs ≡ 1 → xs ≡ get_or xs 0 0 ∷ []
+          alone_at xs e = grind (arith, common_steps)
 
       -- The words have the tree that was read, and no other.
       whole_tree : HasTree ws read.tree
@@ -89,17 +96,17 @@ module _ (ws : List ℕ) (r : Reader) (fresh : Fresh ws r) where
           subst (λ us. Expression us [] read.tree) ((λ i. drop (fresh.place i) (fresh.words i)))
           (subst (λ us. Expression (left r) us read.tree) nothing_left read.derived)
 
-      whole_fragment : Fragment (linked r'.machine) (label_of r'.machine) 0 r'.machine.letters p (Language read.tree)
-      whole_fragment = subst (λ n. Fragment (linked r'.machine) (label_of r'.machine) n r'.machine.letters p (Language read.tree)) no_letters read.fragment
+      whole_fragment : Fragment (linked r'.machine) (label_of r'.machine) 0 (letters_in r'.machine) p (Language read.tree)
+      whole_fragment = subst (λ n. Fragment (linked r'.machine) (label_of r'.machine) n (letters_in r'.machine) p (Language read.tree)) no_letters read.fragment
 
       whole_exact : Exact r'.machine 0 p read.tree
       whole_exact = subst (λ n. Exact r'.machine n p read.tree) no_letters read.exact
 
-      no_link : (s q : ℕ) → r'.machine.letters < s → linked r'.machine s q ≡ false
-      no_link s q above = ⊎_elim (λ e. absurd (let z = r'.machine.from s q e in omega arith)) (λ e. e) (cases_Bool (linked r'.machine s q))
+      no_link : (s q : ℕ) → (letters_in r'.machine) < s → linked r'.machine s q ≡ false
+      no_link s q above = not_from r'.machine s q (omega arith)
 
-      pub fills : (m : Machine) → m.letters ≡ r'.machine.letters → Finished r'.machine m p → Fills ws m
-      fills m letters finished = record {
+      pub fills : (m : Machine) → Finished r'.machine m p → Fills ws m
+      fills m finished = record {
         tree = (read.tree, whole_tree);
         says = λ t has w a. subst (λ x. Language x w) (one_tree ws read.tree t whole_tree has) (accepts_says whole_fragment finished w a);
         takes = λ t has w l. accepts_takes whole_fragment finished w (subst (λ x. Language x w) (one_tree ws t read.tree has whole_tree) l);
@@ -109,22 +116,21 @@ module _ (ws : List ℕ) (r : Reader) (fresh : Fresh ws r) where
         ends = λ t has s.
             finished.ends s ∙ (λ i. whole_exact.last s i || (whole_exact.nullable i && eqb s 0))
             ∙ ap (λ x. comes_last x 0 s || (may_be_empty x && eqb s 0)) (one_tree ws read.tree t whole_tree has);
-        size = omega (arith, letters, long);
+        size = omega (arith, finished.letters, long, m.start);
         labels = λ t h.
-            ap (λ us. get_or us (t + 1) 0) finished.labels ∙ sym (get_or-take (r'.machine.letters + 1) r'.machine.labels (t + 1) 0 (omega (arith, long)))
-            ∙ ap (λ us. get_or us (t + 1) 0) named ∙ ap (λ n. get_or (0 ∷ letters_of ws) n 0) (add-one t);
+            ap (λ us. get_or us (t + 1) 0) finished.labels ∙ ap (λ us. get_or us (t + 1) 0) named ∙ ap (λ n. get_or (0 ∷ letters_of ws) n 0) (add-one t);
       }
         where
           -- No move leads from a state that is not there.
           moves : (s p : ℕ) → 1 ≤ s → linked r'.machine s p ≡ comes_after read.tree 0 s p
           moves s p some =
               ⊎_elim
-              (λ (above : r'.machine.letters < s).
+              (λ (above : (letters_in r'.machine) < s).
               no_link s p above ∙ sym (after_out read.tree 0 s p (λ x. omega (arith, x.1, whole_exact.count))))
-              (λ (within : s ≤ r'.machine.letters). whole_exact.after s p some within) (cases_lt r'.machine.letters s)
+              (λ (within : s ≤ (letters_in r'.machine)). whole_exact.after s p some within) (cases_lt (letters_in r'.machine) s)
 
-          long : r'.machine.letters ≡ length (letters_of ws)
-          long = omega (arith, ap length named, length-take-le (r'.machine.letters + 1) r'.machine.labels (omega (arith, r'.machine.names, r'.machine.few)))
+          long : (letters_in r'.machine) ≡ length (letters_of ws)
+          long = omega (arith, ap length named, names r'.machine)
 
 -- Every cause but a limit's says that there is no tree.
 why : (c : Cause) (ws : List ℕ) (f : Fault) → f.cause ≡ c → (c ≡ WordCount → ⊥) → verdict 0 start ws ≡ Some f → Why c ws

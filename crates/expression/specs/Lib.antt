@@ -10,3 +10,5 @@ pub mod Cases
 pub mod Parts
 pub mod Fragments
 pub mod Readers
+pub mod Rows
+pub mod Built

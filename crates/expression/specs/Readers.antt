@@ -1,5 +1,5 @@
 -- What the readers promise each other. Only the contracts of private functions cite this file.
-use Rattle.std.specs.Prelude.{◌≡◌, ℕ, ◌+◌, ◌<◌, ◌≤◌, Bool, true, false, ◌⊎◌, List, [], ◌∷◌, ◌++◌, length, take, drop, Some, None, Ok, Err, Option, Result}
+use Rattle.std.specs.Prelude.{◌≡◌, ℕ, ◌+◌, ◌<◌, ◌≤◌, Bool, true, false, ◌⊎◌, List, [], ◌∷◌, ◌++◌, length, drop, Some, None, Ok, Err, Option, Result}
 use Rattle.expression.specs.declared.fault.Fault.{Fault}
 use Rattle.expression.specs.declared.part.Part.{Part}
 use Rattle.expression.specs.declared.reader.Reader.{Reader}
@@ -9,11 +9,12 @@ use Rattle.expression.specs.declared.machine.Machine.{Machine}
 use Rattle.expression.specs.Fragments.{Fragment}
 use Rattle.expression.specs.Grammar.{Repeats}
 use Rattle.expression.specs.Language.{Tree, Language}
-use Rattle.expression.specs.Machines.{linked, label_of}
+use Rattle.expression.specs.Machines.{linked, label_of, letters_in}
 use Rattle.expression.specs.Scan.{Scan, verdict, letters_of}
 use Rattle.expression.specs.Symbols.{symbol_of}
 use Rattle.masks.specs.Members.{member}
 use Rattle.expression.specs.Parts.{Within}
+use Rattle.expression.specs.Rows.{labels_in}
 use Rattle.expression.specs.Positions.{letter_count, may_be_empty, comes_first, comes_last, comes_after}
 
 -- The words that are still to be read.
@@ -22,7 +23,7 @@ left r = drop r.place r.words.now
 
 -- What the pass over the words knows where the reader is.
 abbrev pub scan_at : Reader → Bool → Scan
-scan_at r b = record { depth = r.depth; letters = r.machine.letters; begins = b }
+scan_at r b = record { depth = r.depth; letters = (letters_in r.machine); begins = b }
 
 -- The fault that is still to come, or none.
 abbrev pub ahead : Reader → Bool → Option Fault
@@ -30,7 +31,7 @@ ahead r b = verdict r.place (scan_at r b) (left r)
 
 -- The labels of all letters, of those read and of those to come; the start's place comes first.
 abbrev pub labels_at : Reader → List ℕ
-labels_at r = take (r.machine.letters + 1) r.machine.labels ++ letters_of (left r)
+labels_at r = labels_in r.machine.positions.items ++ letters_of (left r)
 
 -- A reader has gone on from r to r', in the same words, with the same faults to come and the same letters in all.
 -- The tests say whether a piece must begin there.
@@ -38,7 +39,7 @@ pub record Went (b : Bool) (r : Reader) (b' : Bool) (r' : Reader) : Type 0 where
   pub words : r'.words.now ≡ r.words.now
   pub place : r.place ≤ r'.place
   pub within : r'.place ≤ length r'.words.now
-  pub letters : r.machine.letters ≤ r'.machine.letters
+  pub letters : (letters_in r.machine) ≤ (letters_in r'.machine)
   pub labels : labels_at r' ≡ labels_at r
   pub faults : ahead r b ≡ ahead r' b'
 
@@ -49,26 +50,26 @@ pub record Kept (k : ℕ) (m m' : Machine) : Type 0 where
 
 -- In the machine, the letters after lo are a fragment for the tree's language.
 abbrev pub Spells : Machine → ℕ → Part → Tree → Type 0
-Spells m lo p t = Fragment (linked m) (label_of m) lo m.letters p (Language t)
+Spells m lo p t = Fragment (linked m) (label_of m) lo (letters_in m) p (Language t)
 
 -- The part's sets and the moves from its letters are those of the tree's positions.
 pub record Exact (m : Machine) (lo : ℕ) (p : Part) (t : Tree) : Type 0 where
-  pub count : m.letters ≡ lo + letter_count t
+  pub count : (letters_in m) ≡ lo + letter_count t
   pub nullable : p.nullable ≡ may_be_empty t
   pub first : (x : ℕ) → member p.first x ≡ comes_first t lo x
   pub last : (x : ℕ) → member p.last x ≡ comes_last t lo x
-  pub after : (s x : ℕ) → lo < s → s ≤ m.letters → linked m s x ≡ comes_after t lo s x
+  pub after : (s x : ℕ) → lo < s → s ≤ (letters_in m) → linked m s x ≡ comes_after t lo s x
 
 -- A reader has read a part that begins at r and ends at r', of this level of the grammar.
 pub record ReadPart (Level : List ℕ → List ℕ → Tree → Type 0) (r r' : Reader) (p : Part) : Type 0 where
   pub went : Went true r false r'
   pub depth : r'.depth ≡ r.depth
   pub further : r.place < r'.place
-  pub kept : Kept r.machine.letters r.machine r'.machine
+  pub kept : Kept (letters_in r.machine) r.machine r'.machine
   pub tree : Tree
   pub derived : Level (left r) (left r') tree
-  pub fragment : Spells r'.machine r.machine.letters p tree
-  pub exact : Exact r'.machine r.machine.letters p tree
+  pub fragment : Spells r'.machine (letters_in r.machine) p tree
+  pub exact : Exact r'.machine (letters_in r.machine) p tree
 
 -- What a reader answers: a part, or the fault that was to come.
 abbrev pub Read : (List ℕ → List ℕ → Tree → Type 0) → Reader → Reader → Result Part Fault → Type 0
@@ -86,7 +87,7 @@ pub record Grown (p : Part) (r r' : Reader) (q : Part) (s : Tree) : Type 0 where
 pub record RepeatedPart (p : Part) (r r' : Reader) (q : Part) : Type 0 where
   pub went : Went false r false r'
   pub depth : r'.depth ≡ r.depth
-  pub kept : (lo : ℕ) → Within lo r.machine.letters p → Kept lo r.machine r'.machine
+  pub kept : (lo : ℕ) → Within lo (letters_in r.machine) p → Kept lo r.machine r'.machine
   pub grown : (s : Tree) → Grown p r r' q s
 
 abbrev pub Repeated : Part → Reader → Reader → Result Part Fault → Type 0

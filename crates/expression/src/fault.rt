@@ -3,20 +3,20 @@ ghost use Rattle.std.specs.Prelude.{◌≡◌};
 ghost use Rattle.expression.specs.Faults.{cause_number};
 
 /// Why an expression is refused.
-#[derive(Clone, Copy)]
+#[derive(Clone, Copy, Debug, PartialEq, Eq)]
 pub enum Cause {
     /// There are no words, or more than 256.
-    WordCount,
+    WordCount = 20,
     /// Not an expression word.
-    NotAWord,
+    NotAWord = 21,
     /// A bar, close, star, plus or maybe where a piece must begin, or a close with nothing open.
-    NoPiece,
+    NoPiece = 22,
     /// A letter after 31 others.
-    TooManyLetters,
+    TooManyLetters = 23,
     /// An open inside 16 unclosed ones.
-    TooDeep,
+    TooDeep = 24,
     /// The words end where a piece must begin or while something is open.
-    Unfinished,
+    Unfinished = 25,
 }
 
 impl Cause {
@@ -24,19 +24,12 @@ impl Cause {
     pub fn number(self) -> u32
         ensures { result ≡ cause_number self }
     {
-        match self {
-            Cause::WordCount => 20,
-            Cause::NotAWord => 21,
-            Cause::NoPiece => 22,
-            Cause::TooManyLetters => 23,
-            Cause::TooDeep => 24,
-            Cause::Unfinished => 25,
-        }
+        self as u32
     }
 }
 
 /// A refusal: its cause, and the index of the faulty word (0 for a wrong count, the word count at the end).
-#[derive(Clone, Copy)]
+#[derive(Clone, Copy, Debug, PartialEq, Eq)]
 pub struct Fault {
     pub cause: Cause,
     pub place: usize,

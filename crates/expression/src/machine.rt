@@ -4,29 +4,34 @@ pub mod ask;
 mod build;
 pub mod read;
 
-ghost use Rattle.std.specs.Prelude.{◌≡◌, ℕ, ◌≤◌, true, length, slice_index};
+ghost use Rattle.std.specs.Prelude.{◌≡◌, ℕ, ◌<◌, ◌≤◌, true, length, slice_index};
 ghost use Rattle.masks.specs.Members.{member};
+ghost use Rattle.expression.specs.Rows.{labels_in, rows_in};
+
+use arrayvec::ArrayVec;
+use masks::States;
 
 /// How many states a machine can have, the start among them.
-pub const MOST_STATES: usize = 32;
+pub const MOST_STATES: usize = query::MOST_STATES as usize;
+
+/// What a machine knows of one of its states: the label of its letter (0 for the start, which has none), and the states that may come next.
+#[derive(Clone, Copy, Debug, Default, PartialEq, Eq)]
+pub struct Position {
+    pub label: u32,
+    pub next: States,
+}
 
 /// A machine begins empty and is filled by an accepted reading.
 #[derive(Drop)]
 pub struct Machine {
-    // one state for each letter, besides the start
-    letters: u32,
-    accepting: u32,
-    // the label of each state's letter; the start has none
-    labels: [u32; MOST_STATES],
-    // of each state, the states that may come next
-    follow: [u32; MOST_STATES],
-    ghost few: { letters ≤ 31 },
-    ghost names: { length labels ≡ 32 },
-    ghost rows: { length follow ≡ 32 },
-    ghost ends: { (s : ℕ) → member accepting s ≡ true → s ≤ letters },
-    // no move leads into the start or to or from a state that is not there
-    ghost from: { (s t : ℕ) → member (slice_index follow s) t ≡ true → s ≤ letters },
-    ghost into: { (s t : ℕ) → member (slice_index follow s) t ≡ true → 1 ≤ t },
-    ghost within: { (s t : ℕ) → member (slice_index follow s) t ≡ true → t ≤ letters },
-    ghost labelled: { (t : ℕ) → slice_index labels t ≤ 15 },
+    accepting: States,
+    // the start, and then one for each letter
+    positions: ArrayVec<Position, MOST_STATES>,
+    ghost start: { 1 ≤ length positions.items },
+    ghost few: { length positions.items ≤ 32 },
+    // no state is named that is not there, and no move leads into the start
+    ghost ends: { (s : ℕ) → member accepting s ≡ true → s < length positions.items },
+    ghost into: { (s t : ℕ) → member (slice_index (rows_in positions.items) s) t ≡ true → 1 ≤ t },
+    ghost within: { (s t : ℕ) → member (slice_index (rows_in positions.items) s) t ≡ true → t < length positions.items },
+    ghost labelled: { (t : ℕ) → slice_index (labels_in positions.items) t ≤ 15 },
 }

@@ -3,21 +3,23 @@ ghost use Rattle.std.specs.Prelude.{◌≡◌, ℕ, ◌&&◌, ◌||◌};
 ghost use Rattle.masks.specs.Members.{member};
 ghost use Rattle.expression.specs.Parts.{accepted, optional, Either, Then};
 
+use masks::States;
+
 /// Whether nothing will do for the part, and which of its letters may come first and last.
-#[derive(Clone, Copy)]
+#[derive(Clone, Copy, Debug, PartialEq, Eq)]
 pub struct Part {
     pub nullable: bool,
-    pub first: u32,
-    pub last: u32,
+    pub first: States,
+    pub last: States,
 }
 
 impl Part {
     // The states that accept where the part is the whole expression.
-    pub(crate) fn accepting(self) -> u32
+    pub(crate) fn accepting(self) -> States
         ensures { (s : ℕ) → member result s ≡ accepted self s }
     {
         if self.nullable {
-            masks::with(self.last, 0)
+            self.last.with(0)
         } else {
             self.last
         }
@@ -51,14 +53,13 @@ impl Part {
     {
         Part {
             nullable: true,
-            first: self.first,
-            last: self.last,
+            ..self
         }
     }
 }
 
 // The set, and where the test holds the other one with it.
-fn joined_if(test: bool, set: u32, more: u32) -> u32
+fn joined_if(test: bool, set: States, more: States) -> States
     ensures { (t : ℕ) → member result t ≡ (member set t || (test && member more t)) }
 {
     if test { set | more } else { set }

@@ -3,16 +3,17 @@ ghost use Rattle.std.specs.Prelude.{◌≡◌, Some, Ok};
 ghost use Rattle.expression.specs.declared.symbol.Symbol.TheVariants.{Letter, Open};
 ghost use Rattle.expression.specs.Grammar.{Expression, Sequence, Piece, Atom};
 ghost use Rattle.expression.specs.Parts.{Within};
+ghost use Rattle.expression.specs.Machines.{letters_in};
 ghost use Rattle.expression.specs.Reading.{MachineOf};
 ghost use Rattle.expression.specs.Readers.{Ready, Peeked, Read, Repeated, Stopped, after_piece, after_sequence, after_expression, begins_piece};
 
 use crate::fault::{Cause, Fault};
 use crate::machine::Machine;
 use crate::part::Part;
-use crate::symbol;
 use crate::symbol::Symbol;
+use masks::States;
 
-const MOST_LETTERS: u32 = 31;
+const MOST_LETTERS: usize = 31;
 
 const MOST_OPEN: u32 = 16;
 
@@ -40,14 +41,8 @@ pub(crate) fn machine_of(words: &[u32]) -> Result<Machine, Fault>
         // Only a close can come after an expression, and here nothing is open.
         return Err(reader.fault(Cause::NoPiece));
     }
-    let Reader {
-        words: _,
-        place: _,
-        depth: _,
-        mut machine,
-    } = reader;
-    machine.finish(whole);
-    Ok(machine)
+    reader.machine.finish(whole);
+    Ok(reader.machine)
 }
 
 impl<'a> Reader<'a> {
@@ -132,7 +127,7 @@ impl<'a> Reader<'a> {
         }
         let state = self.machine.letter(label);
         self.place += 1;
-        let own = masks::with(0, state);
+        let own = States::none().with(state);
         Ok(Part {
             nullable: false,
             first: own,
@@ -143,7 +138,7 @@ impl<'a> Reader<'a> {
     // The stars, pluses and maybes after a part.
     fn repeats(&mut self, part: Part) -> Result<Part, Fault>
         requires ready { Ready self.old }
-        requires own { Within 0 self.old.machine.letters part }
+        requires own { Within 0 (letters_in self.old.machine) part }
         ensures read { Repeated part self.old self.new result }
         ensures next { Stopped after_piece self.new result }
     {
@@ -161,12 +156,12 @@ impl<'a> Reader<'a> {
     fn peek(&self) -> Result<Option<Symbol>, Fault>
         ensures { Peeked self.now result }
     {
-        if self.place >= self.words.len() {
+        let Some(word) = self.words.get(self.place) else {
             return Ok(None);
-        }
-        match symbol::decode(self.words[self.place]) {
-            Some(next) => Ok(Some(next)),
-            None => Err(self.fault(Cause::NotAWord)),
+        };
+        match Symbol::try_from(*word) {
+            Ok(next) => Ok(Some(next)),
+            Err(_) => Err(self.fault(Cause::NotAWord)),
         }
     }
 
@@ -185,9 +180,5 @@ impl<'a> Reader<'a> {
 fn begins_piece(next: Option<Symbol>) -> bool
     ensures { result ≡ begins_piece next }
 {
-    match next {
-        Some(Symbol::Letter(_)) => true,
-        Some(Symbol::Open) => true,
-        _ => false,
-    }
+    matches!(next, Some(Symbol::Letter(_) | Symbol::Open))
 }

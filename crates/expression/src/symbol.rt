@@ -1,9 +1,8 @@
 // What one expression word stands for.
-ghost use Rattle.std.specs.Prelude.{◌≡◌};
-ghost use Rattle.expression.specs.Symbols.{symbol_of};
+ghost use Rattle.expression.specs.Symbols.{Decodes};
 
 /// A symbol of an expression. A letter has its label, 0 to 15.
-#[derive(Clone, Copy)]
+#[derive(Clone, Copy, Debug, PartialEq, Eq)]
 pub enum Symbol {
     Letter(u32),
     Open,
@@ -30,18 +29,27 @@ const PLUS: u32 = 0x6000_0000;
 
 const MAYBE: u32 = 0x7000_0000;
 
-/// The symbol that the word stands for, or none where it is not an expression word.
-pub fn decode(word: u32) -> Option<Symbol>
-    ensures { result ≡ symbol_of word }
-{
-    match word {
-        LETTER..=LAST_LETTER => Some(Symbol::Letter(word - LETTER)),
-        OPEN => Some(Symbol::Open),
-        CLOSE => Some(Symbol::Close),
-        BAR => Some(Symbol::Bar),
-        STAR => Some(Symbol::Star),
-        PLUS => Some(Symbol::Plus),
-        MAYBE => Some(Symbol::Maybe),
-        _ => None,
+/// A word that is not an expression word.
+#[derive(Clone, Copy, Debug, PartialEq, Eq)]
+pub struct NotAWord(pub u32);
+
+/// The symbol that the word stands for.
+impl TryFrom<u32> for Symbol {
+    type Error = NotAWord;
+
+    ghost try_from_gives = { Decodes };
+
+    #[tactic(auto, unfolding(crate::specs::Symbols::symbol_of))]
+    fn try_from(word: u32) -> Result<Symbol, NotAWord> {
+        match word {
+            LETTER..=LAST_LETTER => Ok(Symbol::Letter(word - LETTER)),
+            OPEN => Ok(Symbol::Open),
+            CLOSE => Ok(Symbol::Close),
+            BAR => Ok(Symbol::Bar),
+            STAR => Ok(Symbol::Star),
+            PLUS => Ok(Symbol::Plus),
+            MAYBE => Ok(Symbol::Maybe),
+            _ => Err(NotAWord(word)),
+        }
     }
 }

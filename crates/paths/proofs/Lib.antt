@@ -1,5 +1,4 @@
 pub mod Chains
-pub mod Pigeons
 pub mod Tables
 pub mod Balance
 pub mod Alone

@@ -1,265 +1,160 @@
 -- A table that is supported and closed is right.
-use Rattle.std.proofs.Common.{◌≡◌, ℕ, zero, suc, ◌+◌, ◌*◌, ◌/◌, ◌%◌, ◌<◌, ◌≤◌, true, ◌⊎◌, List, [], ◌∷◌, ◌++◌, length, Some, None, Option, sym, refl, ap, ◌∙◌, subst, inl, inr, ⊎_elim, mul_comm, arith, length-append}
-use Rattle.std.proofs.lemmas.Nat.{mul-add-lt, div-mul-add, mod-mul-add}
-use Rattle.std.proofs.lemmas.Bool.{cases_lt, cases_Bool, both_ways}
+use Rattle.std.proofs.Common.{◌≡◌, ℕ, zero, suc, ◌+◌, ◌*◌, ◌<◌, ◌≤◌, min, eqb, List, [], ◌∷◌, ◌++◌, length, Some, refl, ⊎_elim, arith}
+use Rattle.std.specs.Prelude.{if◌then◌else◌, IsTrue, All, false}
+use Rattle.std.specs.List.{IsDistinct}
+use Rattle.std.proofs.lemmas.List.Elements.{All-nil, All-cons, recursion_from_All}
+use Rattle.std.proofs.lemmas.List.{length_push, map_push}
+use Rattle.std.proofs.lemmas.Map.Made.{is_member-Decides}
+use Rattle.std.proofs.lemmas.Map.Steps.{length-le_from_distinct_below}
+use Rattle.std.proofs.lemmas.Nat.{mul-add-lt, same_from_place}
+use Rattle.std.proofs.lemmas.Bool.{cases_lt}
+use Rattle.std.proofs.lemmas.Bool.Decides.{Decides-eqb, nat_tests}
 use Rattle.query.specs.Meaning.{Meaning, Lawful}
 use Rattle.query.specs.Words.{Leads}
 use Rattle.query.proofs.Runs.{leads_push}
 use Rattle.paths.specs.Links.{Links, Triple}
 use Rattle.paths.specs.Paths.{Chain, word, path_time}
-use Rattle.paths.specs.Arrivals.{Arrives, Reached, LastStep}
+use Rattle.paths.specs.Arrivals.{Arrives, LastStep}
 use Rattle.paths.specs.Pairs.{Stands}
 use Rattle.paths.specs.Tables.{Step, Table, Shown, first, next, Supported, Closed, Right, PairShown, Below, TableLaw}
-use Rattle.paths.proofs.Chains.{chain_join, word_join, AtLeast, at_least_less, at_least_join, time_at_least, at_least_time}
-use Rattle.paths.proofs.Pigeons.{Different, at_most}
+use Rattle.paths.proofs.Chains.{chain_push, path_time-push}
 
 module _ {G : Links} {m : Meaning} {a : ℕ} {T : Table} where
   -- No path has more than a closed table says.
-  climb : Closed G m a T → (ts : List Triple) (p q b s k : ℕ) → k ≤ T.rank p q → Chain G p ts b → Leads m q (word ts) s → AtLeast G k ts → k ≤ T.rank b s
-  climb c [] p q b s k h e f x = subst (λ y. k ≤ T.rank b y) f (subst (λ y. k ≤ T.rank y q) e h)
-  climb c (t ∷ ts) p q b s k h chain leads x =
-      let up : k ≤ T.rank t.from q = subst (λ y. k ≤ T.rank y q) (sym chain.0) h in
-      let step = c.later t q leads.0 chain.1 leads.1 in
-      climb c ts t.to leads.0 b s k (omega (arith, x.0)) chain.2 leads.2 x.1
+  climb : Closed G m a T → (ts : List Triple) (p q b s : ℕ) → Chain G p ts b → Leads m q (word ts) s → min (T.rank p q) (path_time G ts + 1) ≤ T.rank b s
+  climb closed [] p q b s chain leads = grind arith
+  climb closed (t ∷ []) p q b s chain leads = grind (arith, closed.later)
+  climb closed (t ∷ u ∷ ts) p q b s chain (r, move, leads) = grind (arith, closed.later t q r, climb closed (u ∷ ts) t.to r b s chain.2 leads)
 
   path_below : Closed G m a T → (b s : ℕ) (ts : List Triple) → Arrives G m a b s ts → path_time G ts + 1 ≤ T.rank b s
-  path_below c b s [] arrives = absurd (let z = arrives.path.some in omega arith)
-  path_below c b s (t ∷ ts) arrives =
-      let chain = arrives.path.laid in
-      let leads = arrives.leads in
-      let all = time_at_least G (t ∷ ts) in
-      let step = c.start t leads.0 chain.1 chain.0 leads.1 in
-      climb c ts t.to leads.0 b s (path_time G (t ∷ ts) + 1) (omega (arith, all.0)) chain.2 leads.2 all.1
+  path_below closed b s [] arrives = absurd (let some = arrives.path.some in omega arith)
+  path_below closed b s (t ∷ []) arrives = grind (arith, closed.start t s)
+  path_below closed b s (t ∷ u ∷ ts) arrives =
+      let (q, move, leads) = arrives.leads in
+      grind (arith, closed.start t q, climb closed (u ∷ ts) t.to q b s arrives.path.laid.2 leads)
 
-  -- A shown path is a path, and each of its links has at least the arrival's rank.
-  shown_arrives : {b s : ℕ} {ts : List Triple} → Shown G m a T b s ts → Arrives G m a b s ts × AtLeast G (T.rank b s) ts
-  shown_arrives (first b s t last into from move) =
-      (record { path = record { some = omega arith; laid = (from, into.there, into.ends) }; leads = (s, move, refl) }, (into.most, tt))
+  -- A shown path is a path, and none of its links has less than the arrival's rank.
+  shown_arrives : {b s : ℕ} {ts : List Triple} → Shown G m a T b s ts → Arrives G m a b s ts × (T.rank b s ≤ path_time G ts + 1)
+  shown_arrives (first b s t last into from move) = grind arith
   shown_arrives (next b s t c q ts last into from move more shown) =
-      let r = shown_arrives shown in (
-        record {
-          path = record { some = omega (arith, length-append ts (t ∷ [])); laid = chain_join G ts (t ∷ []) a c b r.0.path.laid (from, into.there, into.ends) };
-          leads = subst (λ w. Leads m 0 w s) (sym (word_join ts (t ∷ []))) (leads_push m (word ts) t.label 0 q s r.0.leads move);
-        },
-        at_least_join G (T.rank b s) ts (t ∷ []) (at_least_less G (T.rank b s) (T.rank c q) ts more r.1) (into.most, tt),
-      )
+      grind (arith, shown_arrives shown, length_push, chain_push, map_push (λ (t : Triple). t.label) ts t, leads_push m (word ts) t.label 0 q s, path_time-push)
 
   shown_time : Closed G m a T → (b s : ℕ) (ts : List Triple) → Shown G m a T b s ts → Arrives G m a b s ts × (path_time G ts + 1 ≡ T.rank b s)
-  shown_time c b s ts shown =
-      let r = shown_arrives shown in
-      (r.0, omega (arith, path_below c b s ts r.0, at_least_time G (T.rank b s) ts r.0.path.some r.1))
+  shown_time closed b s ts shown = grind (arith, shown_arrives shown, path_below closed b s ts)
 
   -- The last step of a shown path is one of its arrival.
   shown_last : {b s : ℕ} {ts : List Triple} → Shown G m a T b s ts → (step : Step) × (T.last b s ≡ Some step) × LastStep G m a b s step.link
-  shown_last (first b s t last into from move) =
-      (record { link = t; before = None }, last, record { there = into.there; ends = into.ends; after = inl (from, move) })
-  shown_last (next b s t c q ts last into from move more shown) =
-      (record { link = t; before = Some q }, last, record { there = into.there; ends = into.ends; after = inr (q, subst (λ x. Reached G m a x q) (sym from) (ts, (shown_arrives shown).0), move) })
+  shown_last (first b s t last into from move) = grind arith
+  shown_last (next b s t c q ts last into from move more shown) = grind (arith, shown_arrives shown)
 
-  pub right : Supported G m a T → Closed G m a T → Right G m a T
-  right up c = record {
-    reached = λ b s h.
-        let x = up.shown b s h in
-        let r = shown_time c b s x.0 x.1 in
-        record { path = x.0; arrives = r.0; time = omega (arith, r.1); most = λ ts arrives. omega (arith, path_below c b s ts arrives) };
-    only = λ b s x. omega (arith, path_below c b s x.0 x.1);
-    lasts = λ b s h. shown_last (up.shown b s h).1;
-    shows = shown_time c;
+  right : Supported G m a T → Closed G m a T → Right G m a T
+  right supported closed = record {
+    reached = λ b s some.
+        let (path, shown) = supported.shown b s some in
+        let (arrives, time) = shown_time closed b s path shown in
+        record { path = path; arrives = arrives; time = omega arith; most = λ ts arrives. omega (arith, path_below closed b s ts arrives) };
+    only = λ b s (ts, arrives). omega (arith, path_below closed b s ts arrives);
+    lasts = λ b s some. shown_last (supported.shown b s some).1;
+    shows = shown_time closed;
   }
-
--- Equal last steps have equal parts.
-same_step : (x : Option Step) (t u : Triple) (p q : Option ℕ) → x ≡ Some (record { link = t; before = p }) → x ≡ Some (record { link = u; before = q }) → (t ≡ u) × (p ≡ q)
-same_step x t u p q e f =
-    let y : Step = record { link = t; before = p } in
-    let z : Step = record { link = u; before = q } in
-    let h : y ≡ z = (let k : Some y ≡ Some z = sym e ∙ f in cc) in
-    (ap (λ (v : Step). v.link) h, ap (λ (v : Step). v.before) h)
-
-module _ (G : Links) (m : Meaning) (a : ℕ) (T : Table) where
-  -- A shown path by its last step.
-  record First (b s : ℕ) (ts : List Triple) : Type 0 where
-    t : Triple
-    last : T.last b s ≡ Some (record { link = t; before = None })
-    path : ts ≡ t ∷ []
-
-  record Next (b s : ℕ) (ts : List Triple) : Type 0 where
-    t : Triple
-    q : ℕ
-    us : List Triple
-    last : T.last b s ≡ Some (record { link = t; before = Some q })
-    path : ts ≡ us ++ t ∷ []
-    shown : Shown G m a T t.from q us
-
-  shown_view : (b s : ℕ) (ts : List Triple) → Shown G m a T b s ts → First b s ts ⊎ Next b s ts
-  shown_view b s ts (first _ _ t last into from move) = inl (record { t = t; last = last; path = refl })
-  shown_view b s ts (next _ _ t c q us last into from move more shown) =
-      inr (record { t = t; q = q; us = us; last = last; path = refl; shown = subst (λ x. Shown G m a T x q us) (sym from) shown })
 
   -- An arrival has one shown path.
-  shown_same : {b s : ℕ} {ts : List Triple} → Shown G m a T b s ts → (us : List Triple) → Shown G m a T b s us → ts ≡ us
-  shown_same (first b s t last into from move) us other =
-      ⊎_elim (λ x. ap (λ y. y ∷ []) (same_step _ t x.t None None last x.last).0 ∙ sym x.path)
-      (λ x. absurd (let e = (same_step _ t x.t None (Some x.q) last x.last).1 in let z : ◌≡◌ {A = ℕ} 0 1 = cc in omega arith)) (shown_view b s us other)
-  shown_same (next b s t c q ts last into from move more shown) us other =
-      ⊎_elim (λ x. absurd (let e = (same_step _ t x.t (Some q) None last x.last).1 in let z : ◌≡◌ {A = ℕ} 0 1 = cc in omega arith))
-      (λ x.
-      let e = same_step _ t x.t (Some q) (Some x.q) last x.last in
-      let k : q ≡ x.q = (let h = e.1 in cc) in
-      let d : x.t.from ≡ c = ap (λ (y : Triple). y.from) (sym e.0) ∙ from in
-      let rest = shown_same shown x.us (subst (λ y. Shown G m a T c y x.us) (sym k) (subst (λ y. Shown G m a T y x.q x.us) d x.shown)) in
-      (λ i. rest i ++ e.0 i ∷ []) ∙ sym x.path)
-      (shown_view b s us other)
+  shown_same : {b s c q : ℕ} {ts us : List Triple} → Shown G m a T b s ts → Shown G m a T c q us → b ≡ c → s ≡ q → ts ≡ us
+  shown_same (first b s t last into from move) (first c q u last' into' from' move') point state = grind arith
+  shown_same (first b s t last into from move) (next c q u d r us last' into' from' move' more' shown') point state = grind arith
+  shown_same (next b s t d r ts last into from move more shown) (first c q u last' into' from' move') point state = grind arith
+  shown_same (next b s t d r ts last into from move more shown) (next c q u d' r' us last' into' from' move' more' shown') point state =
+      grind (arith, shown_same shown shown' (grind arith) (grind arith))
 
-  -- The arrival that a shown path comes to with its i-th link.
-  record Visit (i : ℕ) : Type 0 where
-    point : ℕ
-    state : ℕ
-    path : List Triple
-    shown : Shown G m a T point state path
-    long : length path ≡ i + 1
+module _ (G : Links) (m : Meaning) (a n : ℕ) (T : Table) (law : Lawful m) (below : Below n G) where
+  -- A shown path leads to a point below n in a state of the query.
+  within : {b s : ℕ} {ts : List Triple} → Shown G m a T b s ts → (b < n) × (s < m.size)
+  within (first b s t last into from move) = grind (arith, below, law.steps)
+  within (next b s t c q ts last into from move more shown) = grind (arith, below, law.steps)
 
-  visit : {b s : ℕ} {ts : List Triple} → Shown G m a T b s ts → (i : ℕ) → i < length ts → Visit i
-  visit (first b s t last into from move) i h =
-      record { point = b; state = s; path = t ∷ []; shown = first b s t last into from move; long = omega arith }
-  visit (next b s t c q ts last into from move more shown) i h =
-      ⊎_elim (λ lt. visit shown i lt)
-      (λ ge. record { point = b; state = s; path = ts ++ t ∷ []; shown = next b s t c q ts last into from move more shown; long = omega (arith, length-append ts (t ∷ [])) }) (cases_lt i (length ts))
+  same_number : {b s c q : ℕ} {ts us : List Triple} → Shown G m a T b s ts → Shown G m a T c q us → b * m.size + s ≡ c * m.size + q → ts ≡ us
+  same_number {b} {s} {c} {q} shown shown' same =
+      let (point, state) = same_from_place b s c q m.size (within shown).1 (within shown').1 same in
+      shown_same shown shown' point state
 
-  shown_within : (n : ℕ) → Lawful m → Below n G → (b s : ℕ) (ts : List Triple) → Shown G m a T b s ts → (b < n) × (s < m.size)
-  shown_within n law below b s ts (first _ _ t last into from move) = (subst (λ x. x < n) into.ends (below t into.there).1, (law.steps 0 t.label s move).2)
-  shown_within n law below b s ts (next _ _ t c q us last into from move more shown) = (subst (λ x. x < n) into.ends (below t into.there).1, (law.steps q t.label s move).2)
+  -- The number of an arrival with a shown path of at most k links.
+  abbrev Visit : ℕ → ℕ → Type 0
+  Visit k code = (b : ℕ) × (s : ℕ) × (ts : List Triple) × Shown G m a T b s ts × (code ≡ b * m.size + s) × (length ts ≤ k)
 
-  -- So a shown path comes to different arrivals, of which there are at most n × size.
-  module _ (n : ℕ) (law : Lawful m) (below : Below n G) (b s : ℕ) (ts : List Triple) (shown : Shown G m a T b s ts) where
-    place : (i : ℕ) → (i < length ts) ⊎ (length ts ≤ i) → ℕ
-    place i (inl h) = let v = visit shown i h in v.point * m.size + v.state
-    place i (inr h) = 0
+  -- A shown path comes to different arrivals.
+  visits : {b s : ℕ} {ts : List Triple} → Shown G m a T b s ts → (codes : List ℕ) × (length codes ≡ length ts) × All (Visit (length ts)) codes × IsDistinct eqb codes
+  unfolding IsDistinct
+  visits (first b s t last into from move) = (
+    (b * m.size + s) ∷ [],
+    refl,
+    All-cons (Visit 1) _ [] (b, s, _, first b s t last into from move, refl, omega arith) (All-nil (Visit 1)),
+    (tt, tt),
+  )
+  visits (next b s t c q ts last into from move more shown) =
+      let here = next b s t c q ts last into from move more shown in
+      let (codes, long, each, distinct) = visits shown in
+      let longer = length_push ts t in (
+        (b * m.size + s) ∷ codes,
+        omega arith,
+        All-cons (Visit (length (ts ++ t ∷ []))) _ codes (b, s, _, here, refl, omega arith) (λ k d inside. let (c, q, us, shown, is, short) = each k d inside in (c, q, us, shown, is, omega arith)),
+        (
+          recursion_from_All (λ code. eqb (b * m.size + s) code ≡ false) codes
+              (λ k d inside.
+              let (c, q, us, shown, is, short) = each k d inside in
+              grind (arith, nat_tests, same_number here shown)),
+          distinct,
+        ),
+      )
 
-    code : ℕ → ℕ
-    code i = place i (cases_lt i (length ts))
+  -- Of these there are at most n × size.
+  short : (b s : ℕ) (ts : List Triple) → Shown G m a T b s ts → length ts ≤ n * m.size
+  short b s ts shown =
+      let (codes, long, each, distinct) = visits shown in
+      let few = length-le_from_distinct_below codes (n * m.size) distinct
+      (λ code member.
+      let (k, inside, at) = (is_member-Decides Decides-eqb codes code).0 member in
+      let (c, q, us, shown, is, _) = each k code inside in
+      grind (arith, mul-add-lt c m.size q n, within shown)) in
+      omega arith
 
-    -- What the number of a visit tells.
-    code_is : (i : ℕ) → i < length ts → (v : Visit i) × (code i ≡ v.point * m.size + v.state)
-    unfolding code place
-    code_is i h = go (cases_lt i (length ts))
-      where
-        go : (c : (i < length ts) ⊎ (length ts ≤ i)) → (v : Visit i) × (place i c ≡ v.point * m.size + v.state)
-        go (inl k) = (visit shown i k, refl)
-        go (inr k) = absurd (omega arith)
+-- The first of the greatest.
+greatest : (key : ℕ → ℕ) (n : ℕ) → (best : ℕ) × ((k : ℕ) → k ≤ n → key k ≤ key best) × ((k : ℕ) → k < best → key k < key best)
+greatest key zero = (0, λ k within. grind arith, λ k within. omega arith)
+greatest key (suc n) =
+    let (best, most, lowest) = greatest key n in
+    ⊎_elim (λ less. (suc n, λ k within. grind (arith, most k), λ k within. grind (arith, most k))) (λ more. (best, λ k within. grind (arith, most k), lowest)) (cases_lt (key best) (key (suc n)))
 
-    different : Different (length ts) (n * m.size) code
-    different = record {
-      below = λ i h.
-          let v = code_is i h in
-          let w = shown_within n law below v.0.point v.0.state v.0.path v.0.shown in
-          omega (arith, v.1, mul-add-lt v.0.point m.size v.0.state n w.0 w.1, mul_comm n m.size);
-      apart = λ i j h k e.
-          let v = code_is i h in
-          let w = code_is j k in
-          let x = shown_within n law below v.0.point v.0.state v.0.path v.0.shown in
-          let y = shown_within n law below w.0.point w.0.state w.0.path w.0.shown in
-          let eq = sym v.1 ∙ e ∙ w.1 in
-          let points : v.0.point ≡ w.0.point = sym (div-mul-add v.0.point m.size v.0.state x.1) ∙ ap (λ z. z / m.size) eq ∙ div-mul-add w.0.point m.size w.0.state y.1 in
-          let states : v.0.state ≡ w.0.state = sym (mod-mul-add v.0.point m.size v.0.state x.1) ∙ ap (λ z. z % m.size) eq ∙ mod-mul-add w.0.point m.size w.0.state y.1 in
-          let paths = shown_same v.0.shown w.0.path (subst (λ z. Shown G m a T v.0.point z w.0.path) (sym states) (subst (λ z. Shown G m a T z w.0.state w.0.path) (sym points) w.0.shown)) in
-          omega (arith, v.0.long, w.0.long, ap length paths);
-    }
-
-    shown_short : length ts ≤ n * m.size
-    shown_short = at_most (n * m.size) (length ts) code different
-
--- Of the accepting states that are reached, the lowest of the greatest rank.
-module _ (m : Meaning) (rank : ℕ → ℕ) where
-  record Best (k : ℕ) : Type 0 where
-    state : ℕ
-    below : state < k
-    accepts : m.accepting state ≡ true
-    reached : 0 < rank state
-    most : (s : ℕ) → s < k → m.accepting s ≡ true → rank s ≤ rank state
-    lowest : (s : ℕ) → s < k → m.accepting s ≡ true → rank s ≡ rank state → state ≤ s
-
-  record NoBest (k : ℕ) : Type 0 where
-    none : (s : ℕ) → s < k → m.accepting s ≡ true → rank s ≡ 0
-
-  -- What holds below k and at k holds below k + 1.
-  one_more : (P : ℕ → Type 0) (k : ℕ) → ((s : ℕ) → s < k → P s) → P k → (s : ℕ) → s < suc k → P s
-  one_more P k before here s h = ⊎_elim (λ lt. before s lt) (λ ge. subst P (let e : k ≡ s = omega arith in e) here) (cases_lt s k)
-
-  -- The state k is the best so far.
-  best_new : (k : ℕ) → m.accepting k ≡ true → 0 < rank k → ((s : ℕ) → s < k → m.accepting s ≡ true → rank s < rank k) → Best (suc k)
-  best_new k good pos before = record {
-    state = k;
-    below = omega arith;
-    accepts = good;
-    reached = pos;
-    most = one_more (λ s. m.accepting s ≡ true → rank s ≤ rank k) k (λ s h e. let z = before s h e in omega arith) (λ e. omega arith);
-    lowest = one_more (λ s. m.accepting s ≡ true → rank s ≡ rank k → k ≤ s) k (λ s h e same. absurd (let z = before s h e in omega arith)) (λ e same. omega arith);
-  }
-
-  -- Or the one before stays the best.
-  best_kept : (k : ℕ) (x : Best k) → (m.accepting k ≡ true → rank k ≤ rank x.state) → Best (suc k)
-  best_kept k x worse = record {
-    state = x.state;
-    below = omega (arith, x.below);
-    accepts = x.accepts;
-    reached = x.reached;
-    most = one_more (λ s. m.accepting s ≡ true → rank s ≤ rank x.state) k x.most worse;
-    lowest = one_more (λ s. m.accepting s ≡ true → rank s ≡ rank x.state → x.state ≤ s) k x.lowest (λ e same. omega (arith, x.below));
-  }
-
-  none_kept : (k : ℕ) → NoBest k → (m.accepting k ≡ true → rank k ≡ 0) → NoBest (suc k)
-  none_kept k n here = record { none = one_more (λ s. m.accepting s ≡ true → rank s ≡ 0) k n.none here }
-
-  more : (k : ℕ) → NoBest k ⊎ Best k → NoBest (suc k) ⊎ Best (suc k)
-  more k sofar = ⊎_elim accepting (λ bad. ⊎_elim (λ n. inl (none_kept k n (λ e. absurd (both_ways _ bad e)))) (λ x. inr (best_kept k x (λ e. absurd (both_ways _ bad e)))) sofar) (cases_Bool (m.accepting k))
-    where
-      accepting : m.accepting k ≡ true → NoBest (suc k) ⊎ Best (suc k)
-      accepting good =
-          ⊎_elim
-          (λ n.
-          ⊎_elim (λ pos. inr (best_new k good pos (λ s h e. let z = n.none s h e in omega arith))) (λ zero'. inl (none_kept k n (λ e. omega arith))) (cases_lt 0 (rank k)))
-          (λ x.
-          ⊎_elim (λ up. inr (best_new k good (omega arith) (λ s h e. let z = x.most s h e in omega arith))) (λ down. inr (best_kept k x (λ e. down))) (cases_lt (rank x.state) (rank k)))
-          sofar
-
-  best : (k : ℕ) → NoBest k ⊎ Best k
-  best zero = inl (record { none = λ s h e. absurd (omega arith) })
-  best (suc k) = more k (best k)
-
--- A pair that stands has a shown path.
+-- A pair that stands has a shown path: of its accepting states the lowest of the greatest rank.
 pair_shown : (G : Links) (m : Meaning) (a : ℕ) (T : Table) → Lawful m → Supported G m a T → Right G m a T → (b : ℕ) → Stands G m a b → (ts : List Triple) × PairShown G m a T b ts
-pair_shown G m a T law up right_table b st = ⊎_elim none some (best m (T.rank b) m.size)
-  where
-    none : NoBest m (T.rank b) m.size → (ts : List Triple) × PairShown G m a T b ts
-    none n =
-        absurd (let z = n.none st.state (law.ends st.state st.accepts).0 st.accepts in let p = right_table.only b st.state st.reached in omega arith)
-
-    some : Best m (T.rank b) m.size → (ts : List Triple) × PairShown G m a T b ts
-    some x =
-        let time = right_table.reached b x.state x.reached in
-        let shown = up.shown b x.state x.reached in (
-          shown.0,
-          record {
-            state = x.state;
-            accepts = x.accepts;
-            reached = x.reached;
-            time = record {
-              listed = st.listed;
-              state = x.state;
-              accepts = x.accepts;
-              path = time.path;
-              arrives = time.arrives;
-              time = time.time;
-              most = λ s accepts ts arrives.
-                  let pos = right_table.only b s (ts, arrives) in
-                  omega (arith, (right_table.reached b s pos).most ts arrives, x.most s (law.ends s accepts).0 accepts, x.reached);
-            };
-            lowest = λ s accepts same. x.lowest s (law.ends s accepts).0 accepts same;
-            shown = shown.1;
-          },
-        )
+pair_shown G m a T law supported right b stands =
+    let (state, most, lowest) = greatest (λ s. if m.accepting s then T.rank b s else 0) m.size in
+    let within : (s : ℕ) → IsTrue (m.accepting s) → s ≤ m.size = λ s accepts. omega (arith, (law.ends s accepts).0) in
+    let reached = right.only b stands.state stands.reached in
+    let best : IsTrue (m.accepting state) × (0 < T.rank b state) = grind (arith, most stands.state, within stands.state) in
+    let (ts, shown) = supported.shown b state best.1 in
+    let time = right.reached b state best.1 in (
+      ts,
+      record {
+        state = state;
+        accepts = best.0;
+        reached = best.1;
+        time = record {
+          listed = stands.listed;
+          state = state;
+          accepts = best.0;
+          path = time.path;
+          arrives = time.arrives;
+          time = time.time;
+          most = λ s accepts ts arrives.
+              let reached = right.only b s (ts, arrives) in
+              grind (arith, (right.reached b s reached).most ts arrives, most s, within s);
+        };
+        lowest = λ s accepts same. grind (arith, most s, within s, lowest s);
+        shown = shown;
+      },
+    )
 
 pub table_law : TableLaw
-table_law G m a n T law below up closed =
-    let r = right up closed in
-    (r, λ b s ts shown. shown_short G m a T n law below b s ts shown, pair_shown G m a T law up r)
+table_law G m a n T law below supported closed =
+    let is = right supported closed in
+    (is, short G m a n T law below, pair_shown G m a T law supported is)

@@ -1,5 +1,6 @@
 -- The plain watch: what it holds, its calls with their refusals in order, and what it then tells. It works everything out anew.
-use Rattle.std.specs.Prelude.{ℕ, zero, suc, ◌+◌, ◌-◌, ◌*◌, min, Bool, cond, not, ◌&&◌, ◌||◌, List, [], ◌∷◌, is_some, Some, None, Option, ◌==◌, nat_le, nat_lt}
+use Rattle.std.specs.Prelude.{ℕ, ◌+◌, ◌-◌, ◌*◌, min, Bool, if◌then◌else◌, not, ◌&&◌, ◌||◌, List, [], ◌∷◌, count_by, sum_by, is_some, is_none, Some, None, Option, option_map, ◌==◌, nat_le, nat_lt}
+use Rattle.std.specs.List.{range_with_len}
 use Rattle.query.specs.Meaning.{Meaning, most_states, last_label}
 use Rattle.paths.specs.Links.{Links, Triple, same, is_kept, rank_of, most_points, last_clock}
 use Rattle.paths.specs.Pairs.{Stands}
@@ -29,12 +30,8 @@ abbrev pub in_maintenance : Held → ℕ → Bool
 in_maintenance h p = nat_lt 0 (h.passes p)
 
 -- A kept link counts, by its rank, while neither end is in maintenance.
-abbrev pub ranked : ℕ → Option ℕ → Option ℕ
-ranked window None = None
-ranked window (Some time) = Some (rank_of window time)
-
 abbrev pub counting : Held → Links
-counting h t = cond (in_maintenance h t.from || in_maintenance h t.to) None (ranked h.window (h.links t))
+counting h t = if in_maintenance h t.from || in_maintenance h t.to then None else option_map (rank_of h.window) (h.links t)
 
 -- Which pairs stand: they are found anew from the counting links. Idle, there are none.
 abbrev pub Standing : Plain → ℕ → ℕ → Type 0
@@ -69,16 +66,18 @@ refuse b k = record { holds = b; number = k }
 -- Refusals are tried in order.
 abbrev pub first_of : List Refusal → Option ℕ
 first_of [] = None
-first_of (r ∷ rs) = cond r.holds (Some r.number) (first_of rs)
+first_of (r ∷ rs) = if r.holds then Some r.number else first_of rs
 
--- The sum of a function below a number.
-abbrev pub total : (ℕ → ℕ) → ℕ → ℕ
-total f zero = 0
-total f (suc k) = f k + total f k
+-- The points of a watch, and the labels.
+abbrev pub points : Held → List ℕ
+points h = range_with_len 0 h.n
+
+abbrev pub labels : List ℕ
+labels = range_with_len 0 (last_label + 1)
 
 -- How many links are kept: over all triples of points and labels.
 abbrev pub kept_links : Held → ℕ
-kept_links h = total (λ a. total (λ b. total (λ l. cond (is_some (h.links (record { from = a; to = b; label = l }))) 1 0) (last_label + 1)) h.n) h.n
+kept_links h = sum_by (λ a. sum_by (λ b. count_by (λ l. is_some (h.links (record { from = a; to = b; label = l }))) labels) (points h)) (points h)
 
 -- 7: report memory has fewer than n × n words.
 abbrev pub short_report : Held → ℕ → Refusal
@@ -97,10 +96,10 @@ open_refusals arrivals n window size =
     refuse (nat_lt arrivals (n * n * size)) 6 ∷ []
 
 abbrev pub add_refusals : Memory → Held → Triple → ℕ → List Refusal
-add_refusals memory h t room = short_report h room ∷ bad_link h t (refuse (not (is_some (h.links t)) && kept_links h == capacity memory) 10 ∷ [])
+add_refusals memory h t room = short_report h room ∷ bad_link h t (refuse (is_none (h.links t) && kept_links h == capacity memory) 10 ∷ [])
 
 abbrev pub drop_refusals : Held → Triple → ℕ → List Refusal
-drop_refusals h t room = short_report h room ∷ bad_link h t (refuse (not (is_some (h.links t))) 11 ∷ [])
+drop_refusals h t room = short_report h room ∷ bad_link h t (refuse (is_none (h.links t)) 11 ∷ [])
 
 abbrev pub advance_refusals : Held → ℕ → ℕ → List Refusal
 advance_refusals h clock room = short_report h room ∷ refuse (nat_lt last_clock clock) 13 ∷ refuse (nat_lt clock h.clock) 12 ∷ []
@@ -114,11 +113,7 @@ leave_refusals h tag p room = short_report h room ∷ refuse (not (tag == h.tag)
 -- The number of the first refusal that holds, or none. 1: the watch is idle. 2: it is open already.
 abbrev pub refusal : Memory → Plain → Call → Option ℕ
 refusal memory idle (opening n window tag query) = first_of (open_refusals memory.arrivals n window query.size)
-refusal memory idle (adding t room) = Some 1
-refusal memory idle (dropping t room) = Some 1
-refusal memory idle (advancing clock room) = Some 1
-refusal memory idle (entering p room) = Some 1
-refusal memory idle (leaving tag p room) = Some 1
+refusal memory idle call = Some 1
 refusal memory (opened h) (opening n window tag query) = Some 2
 refusal memory (opened h) (adding t room) = first_of (add_refusals memory h t room)
 refusal memory (opened h) (dropping t room) = first_of (drop_refusals h t room)
@@ -129,22 +124,18 @@ refusal memory (opened h) (leaving tag p room) = first_of (leave_refusals h tag 
 -- A link that is past its time is not kept any longer.
 abbrev pub unless_past : ℕ → ℕ → Option ℕ → Option ℕ
 unless_past window clock None = None
-unless_past window clock (Some time) = cond (is_kept window clock time) (Some time) None
+unless_past window clock (Some time) = if is_kept window clock time then Some time else None
 
 -- What an accepted call makes of the watch.
 abbrev pub changed : Held → Call → Held
 changed h (opening n window tag query) = h
-changed h (adding t room) = record { n = h.n; window = h.window; tag = h.tag; query = h.query; clock = h.clock; links = λ u. cond (same u t) (Some h.clock) (h.links u); passes = h.passes }
-changed h (dropping t room) = record { n = h.n; window = h.window; tag = h.tag; query = h.query; clock = h.clock; links = λ u. cond (same u t) None (h.links u); passes = h.passes }
-changed h (advancing clock room) = record { n = h.n; window = h.window; tag = h.tag; query = h.query; clock = clock; links = λ u. unless_past h.window clock (h.links u); passes = h.passes }
-changed h (entering p room) = record { n = h.n; window = h.window; tag = h.tag; query = h.query; clock = h.clock; links = h.links; passes = λ q. cond (q == p) (h.passes q + 1) (h.passes q) }
-changed h (leaving tag p room) = record { n = h.n; window = h.window; tag = h.tag; query = h.query; clock = h.clock; links = h.links; passes = λ q. cond (q == p) (h.passes q - 1) (h.passes q) }
+changed h (adding t room) = record h { links = λ u. if same u t then Some h.clock else h.links u }
+changed h (dropping t room) = record h { links = λ u. if same u t then None else h.links u }
+changed h (advancing clock room) = record h { clock = clock; links = λ u. unless_past h.window clock (h.links u) }
+changed h (entering p room) = record h { passes = λ q. if q == p then h.passes q + 1 else h.passes q }
+changed h (leaving tag p room) = record h { passes = λ q. if q == p then h.passes q - 1 else h.passes q }
 
 abbrev pub after : Plain → Call → Plain
 after idle (opening n window tag query) = opened (record { n = n; window = window; tag = tag; query = query; clock = 0; links = λ _. None; passes = λ _. 0 })
-after idle (adding t room) = idle
-after idle (dropping t room) = idle
-after idle (advancing clock room) = idle
-after idle (entering p room) = idle
-after idle (leaving tag p room) = idle
+after idle call = idle
 after (opened h) call = opened (changed h call)

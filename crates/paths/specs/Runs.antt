@@ -1,8 +1,8 @@
 -- Reports, and rows of calls on the plain watch.
-use Rattle.std.specs.Prelude.{◌≡◌, ℕ, ◌+◌, ◌*◌, ◌<◌, Bool, true, false, cond, not, ◌&&◌, ◌⊎◌, List, [], ◌∷◌, length, Some, None, Option, ◌==◌}
+use Rattle.std.specs.Prelude.{◌≡◌, ℕ, ◌+◌, ◌*◌, ◌<◌, Bool, true, false, if◌then◌else◌, not, ◌&&◌, ◌⊎◌, List, [], ◌∷◌, length, count_by, sum_by, All, Some, None, Option, ◌==◌, ⊤}
 use Rattle.paths.specs.Links.{leaves}
 use Rattle.paths.specs.Pairs.{PairTime}
-use Rattle.paths.specs.Plain.{Held, Plain, idle, opened, Standing, Call, opening, adding, dropping, advancing, entering, leaving, Memory, refusal, after, counting}
+use Rattle.paths.specs.Plain.{Held, Plain, idle, opened, Standing, Call, opening, advancing, entering, Memory, refusal, after, counting}
 
 -- One word of a report: a pair that stands now and did not, announced; or one that stood and does not, withdrawn.
 pub record Change : Type 0 where
@@ -12,7 +12,7 @@ pub record Change : Type 0 where
 
 -- An announcement is 0xD0000000 and a withdrawal 0xE0000000, with the first point in bits 8 to 15 and the second in bits 0 to 7.
 abbrev pub word_of : Change → ℕ
-word_of c = cond c.announced 0xD0000000 0xE0000000 + 256 * c.first + c.second
+word_of c = (if c.announced then 0xD0000000 else 0xE0000000) + 256 * c.first + c.second
 
 -- Whether a change is of the kind asked for.
 abbrev pub same_kind : Bool → Bool → Bool
@@ -21,21 +21,20 @@ same_kind false k = not k
 
 -- How often a report announces a pair, or withdraws it.
 abbrev pub times : Bool → ℕ → ℕ → List Change → ℕ
-times kind a b [] = 0
-times kind a b (c ∷ cs) = cond (same_kind kind c.announced && (c.first == a && c.second == b)) 1 0 + times kind a b cs
+times kind a b cs = count_by (λ c. same_kind kind c.announced && c.first == a && c.second == b) cs
 
 -- Ascending by the first point and then by the second.
 abbrev pub Ascends : List Change → Type 0
-Ascends [] = Unit {0}
-Ascends (c ∷ []) = Unit {0}
+Ascends [] = ⊤
+Ascends (c ∷ []) = ⊤
 Ascends (c ∷ d ∷ cs) = ((c.first < d.first) ⊎ ((c.first ≡ d.first) × (c.second < d.second))) × Ascends (d ∷ cs)
 
 -- The report of an accepted call has one word for each pair whose standing changed, and no other, in order.
 pub record Reports (s s' : Plain) (cs : List Change) : Type 0 where
-  pub announces : (a b : ℕ) → (Standing s a b → ⊥) → Standing s' a b → times true a b cs ≡ 1
-  pub announced : (a b : ℕ) → 0 < times true a b cs → (Standing s a b → ⊥) × Standing s' a b
-  pub withdraws : (a b : ℕ) → Standing s a b → (Standing s' a b → ⊥) → times false a b cs ≡ 1
-  pub withdrawn : (a b : ℕ) → 0 < times false a b cs → Standing s a b × (Standing s' a b → ⊥)
+  pub announces : (a b : ℕ) → (¬ Standing s a b) → Standing s' a b → times true a b cs ≡ 1
+  pub announced : (a b : ℕ) → 0 < times true a b cs → (¬ Standing s a b) × Standing s' a b
+  pub withdraws : (a b : ℕ) → Standing s a b → (¬ Standing s' a b) → times false a b cs ≡ 1
+  pub withdrawn : (a b : ℕ) → 0 < times false a b cs → Standing s a b × (¬ Standing s' a b)
   pub ascends : Ascends cs
 
 -- What a call answers: a refusal's number; an opening nothing; an entering its pass, by tag and point, and the count of its report; any other
@@ -48,21 +47,13 @@ pub data Answer : Type 0 where
 
 abbrev pub answer_of : Plain → Call → List Change → Answer
 answer_of s (opening n window tag query) cs = done
-answer_of s (adding t room) cs = count (length cs)
-answer_of s (dropping t room) cs = count (length cs)
-answer_of s (advancing clock room) cs = count (length cs)
-answer_of idle (entering p room) cs = count (length cs)
 answer_of (opened h) (entering p room) cs = pass h.tag p (length cs)
-answer_of s (leaving tag p room) cs = count (length cs)
+answer_of s call cs = count (length cs)
 
 -- An opening has no report.
 abbrev pub ReportOf : Plain → Call → List Change → Type 0
 ReportOf s (opening n window tag query) cs = cs ≡ []
-ReportOf s (adding t room) cs = Reports s (after s (adding t room)) cs
-ReportOf s (dropping t room) cs = Reports s (after s (dropping t room)) cs
-ReportOf s (advancing clock room) cs = Reports s (after s (advancing clock room)) cs
-ReportOf s (entering p room) cs = Reports s (after s (entering p room)) cs
-ReportOf s (leaving tag p room) cs = Reports s (after s (leaving tag p room)) cs
+ReportOf s call cs = Reports s (after s call) cs
 
 -- A refused call answers its number, changes nothing and has no report. Any other is accepted.
 abbrev pub Outcome : Option ℕ → Plain → Call → Answer → List Change → Plain → Type 0
@@ -85,30 +76,24 @@ pub data Row (memory : Memory) (s : Plain) : List Event → Plain → Type 0 whe
 
 -- How often a row announces a pair, or withdraws it.
 abbrev pub times_in : Bool → ℕ → ℕ → List Event → ℕ
-times_in kind a b [] = 0
-times_in kind a b (e ∷ es) = times kind a b e.report + times_in kind a b es
+times_in kind a b es = sum_by (λ e. times kind a b e.report) es
 
 -- Over any row of calls from the idle watch, a pair's announcements less its withdrawals come to one if it stands and to nought if not.
 abbrev pub BalanceLaw : Type 0
 BalanceLaw =
     (memory : Memory) (es : List Event) (s : Plain) → Row memory idle es s → (a b : ℕ) →
-    (Standing s a b → times_in true a b es ≡ times_in false a b es + 1) × ((Standing s a b → ⊥) → times_in true a b es ≡ times_in false a b es)
+    (Standing s a b → times_in true a b es ≡ times_in false a b es + 1) × ((¬ Standing s a b) → times_in true a b es ≡ times_in false a b es)
 
 -- The call changes no link and no point: it is refused, or it is an advance.
-abbrev pub is_quiet : Answer → Call → Type 0
-is_quiet (refused k) call = Unit {0}
-is_quiet done call = Unit {0}
-is_quiet (pass tag p k) call = ⊥
-is_quiet (count k) (opening n window tag query) = Unit {0}
-is_quiet (count k) (adding t room) = ⊥
-is_quiet (count k) (dropping t room) = ⊥
-is_quiet (count k) (advancing clock room) = Unit {0}
-is_quiet (count k) (entering p room) = ⊥
-is_quiet (count k) (leaving tag p room) = ⊥
+abbrev pub IsQuiet : Answer → Call → Type 0
+IsQuiet (refused k) call = ⊤
+IsQuiet done call = ⊤
+IsQuiet (count k) (opening n window tag query) = ⊤
+IsQuiet (count k) (advancing clock room) = ⊤
+IsQuiet answer call = ⊥
 
 abbrev pub Quiet : List Event → Type 0
-Quiet [] = Unit {0}
-Quiet (e ∷ es) = is_quiet e.answer e.call × Quiet es
+Quiet es = All (λ e. IsQuiet e.answer e.call) es
 
 -- Where no add, drop, enter or leave is accepted from some call on, a pair that then has time g stands from then on at every clock short of
 -- the clock at which a link of time g leaves, and at none from there on.

@@ -4,29 +4,21 @@ ghost use Rattle.paths.specs.Runs.{BalanceLaw, LeftAloneLaw};
 ghost use Rattle.paths.specs.Tables.{TableLaw};
 
 /// Two local facts make a table of arrivals right: it is supported and closed.
-pub fn table() -> u8
+pub fn table()
     ensures { TableLaw }
-{
-    0
-}
+{}
 
 /// A pair's announcements less its withdrawals come to one if it stands and to nought if not.
-pub fn balance() -> u8
+pub fn balance()
     ensures { BalanceLaw }
-{
-    0
-}
+{}
 
 /// A pair left alone stands until its time plus the window, and not from there on.
-pub fn left_alone() -> u8
+pub fn left_alone()
     ensures { LeftAloneLaw }
-{
-    0
-}
+{}
 
 /// The definitions answer the worked cases as they should.
-pub fn cases() -> u8
+pub fn cases()
     ensures { WorkedCases }
-{
-    0
-}
+{}

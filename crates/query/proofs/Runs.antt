@@ -1,7 +1,7 @@
 -- How moves along a word join: at the end of one word and the beginning of the next.
-use Rattle.std.proofs.Common.{◌≡◌, ℕ, Bool, true, List, [], ◌∷◌, ◌++◌, Decides, sym, refl, subst}
+use Rattle.std.proofs.Common.{◌≡◌, ℕ, true, List, [], ◌∷◌, ◌++◌, Decides, sym, refl, subst}
 use Rattle.query.specs.Meaning.{Meaning}
-use Rattle.query.specs.Words.{Leads, Accepts}
+use Rattle.query.specs.Words.{Leads}
 use Rattle.masks.specs.Members.{member}
 
 module _ (m : Meaning) where
@@ -34,10 +34,4 @@ module _ (m : Meaning) where
   reached_more set set' w l sofar next t = (
     λ e. let p = (next t).0 e in leads_push w l 0 p.0 t ((sofar p.0).0 p.1) p.2,
     λ r. let p = leads_pop w l 0 t r in (next t).1 (p.0, (sofar p.0).1 p.1, p.2),
-  )
-
-  pub reached_accepts : (r : Bool) (set : ℕ) (w : List ℕ) → Reached set w → Decides r ((s : ℕ) × (member set s ≡ true) × (m.accepting s ≡ true)) → Decides r (Accepts m w)
-  reached_accepts r set w sofar d = (
-    λ e. let p = d.0 e in (p.0, (sofar p.0).0 p.1, p.2),
-    λ a. d.1 (a.0, (sofar a.0).1 a.1, a.2),
   )

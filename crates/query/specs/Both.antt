@@ -1,5 +1,5 @@
 -- What a query of two queries means: it goes over a word in both at once.
-use Rattle.std.specs.Prelude.{◌≡◌, ℕ, ◌+◌, ◌*◌, ◌/◌, ◌%◌, ◌<◌, ◌≤◌, Bool, true, cond, ◌&&◌, ◌≢◌, List, nat_le, nat_lt}
+use Rattle.std.specs.Prelude.{◌≡◌, ℕ, ◌+◌, ◌*◌, ◌/◌, ◌%◌, ◌<◌, ◌≤◌, Bool, true, if◌then◌else◌, ◌&&◌, ◌≢◌, List, nat_le, nat_lt, IsTrue}
 use Rattle.std.proofs.Common.{arith}
 use Rattle.std.proofs.lemmas.Nat.{mul-le}
 use Rattle.std.proofs.lemmas.Bool.{and_parts, leb-true, ltb-true, cond_both}
@@ -13,7 +13,7 @@ too_many = most_states + 1
 
 -- There is a state for each pair of a state of the first and a state of the second, unless those are too many.
 abbrev pub both_size : Meaning → Meaning → ℕ
-both_size m n = cond (nat_le (m.size * n.size) most_states) (m.size * n.size) too_many
+both_size m n = if nat_le (m.size * n.size) most_states then m.size * n.size else too_many
 
 -- The pair of state a of the first and state b of the second is the state a times the second's size plus b, so a is the quotient by that size.
 abbrev pub first_of : Meaning → ℕ → ℕ
@@ -52,14 +52,14 @@ state_below m n s e =
     (ltb-true s (both_size m n) p.1, leb-true (both_size m n) most_states p.0)
 
 -- Both parts of a state that accepts do.
-pub ends_both : (m n : Meaning) (s : ℕ) → (both_meaning m n).accepting s ≡ true → (is_state m n s ≡ true) × (m.accepting (first_of n s) ≡ true) × (n.accepting (second_of n s) ≡ true)
+pub ends_both : (m n : Meaning) (s : ℕ) → (both_meaning m n).accepting s ≡ true → (is_state m n s ≡ true) × IsTrue (m.accepting (first_of n s)) × IsTrue (n.accepting (second_of n s))
 ends_both m n s e =
     let p = and_parts (is_state m n s && m.accepting (first_of n s)) (n.accepting (second_of n s)) e in
     let q = and_parts (is_state m n s) (m.accepting (first_of n s)) p.0 in
     (q.0, q.1, p.1)
 
 -- A move is one of each part.
-pub steps_both : (m n : Meaning) (s l t : ℕ) → (both_meaning m n).moves s l t ≡ true → (is_state m n s ≡ true) × (is_state m n t ≡ true) × (m.moves (first_of n s) l (first_of n t) ≡ true) × (n.moves (second_of n s) l (second_of n t) ≡ true)
+pub steps_both : (m n : Meaning) (s l t : ℕ) → (both_meaning m n).moves s l t ≡ true → (is_state m n s ≡ true) × (is_state m n t ≡ true) × IsTrue (m.moves (first_of n s) l (first_of n t)) × IsTrue (n.moves (second_of n s) l (second_of n t))
 steps_both m n s l t e =
     let p = and_parts (is_state m n s && is_state m n t && m.moves (first_of n s) l (first_of n t)) (n.moves (second_of n s) l (second_of n t)) e in
     let q = and_parts (is_state m n s && is_state m n t) (m.moves (first_of n s) l (first_of n t)) p.0 in

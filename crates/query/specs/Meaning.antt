@@ -1,5 +1,5 @@
 -- What a query means: a size, accepting states, and moves. State 0 is the start.
-use Rattle.std.specs.Prelude.{◌≡◌, ℕ, ◌+◌, ◌<◌, ◌≤◌, Bool, true}
+use Rattle.std.specs.Prelude.{ℕ, ◌+◌, ◌<◌, ◌≤◌, Bool, IsTrue}
 
 -- States run from 0 to size less 1. A move is a state, a label and a next state; one state and label may have several.
 pub record Meaning : Type 0 where
@@ -19,5 +19,5 @@ last_label = 15
 pub record Lawful (m : Meaning) : Type 0 where
   pub some : 1 ≤ m.size
   pub most : m.size ≤ most_states + 1
-  pub ends : (s : ℕ) → m.accepting s ≡ true → (s < m.size) × (m.size ≤ most_states)
-  pub steps : (s l t : ℕ) → m.moves s l t ≡ true → (s < m.size) × (l ≤ last_label) × (t < m.size) × (m.size ≤ most_states)
+  pub ends : (s : ℕ) → IsTrue (m.accepting s) → (s < m.size) × (m.size ≤ most_states)
+  pub steps : (s l t : ℕ) → IsTrue (m.moves s l t) → (s < m.size) × (l ≤ last_label) × (t < m.size) × (m.size ≤ most_states)

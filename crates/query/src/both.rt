@@ -1,15 +1,9 @@
 // Two queries as one, which goes over a word in both at once and so accepts the words that both accept.
-ghost use Rattle.std.specs.Prelude.{◌≡◌, Decides};
+ghost use Rattle.std.specs.Prelude.{◌≡◌, ◌↔◌, IsTrue};
 ghost use Rattle.query.specs.Words.{Accepts};
-ghost use Rattle.query.specs.Both.{first_of, second_of, is_state, both_lawful, meaning_of, AcceptsBoth};
+ghost use Rattle.query.specs.Both.{first_of, second_of, is_state, both_meaning, both_lawful, meaning_of, AcceptsBoth};
 
-use crate::{Query, accept};
-
-/// A query has at most 32 states.
-const MOST_STATES: u32 = 32;
-
-/// The size of a query that would have more.
-const TOO_MANY: u32 = MOST_STATES + 1;
+use crate::{MOST_STATES, Query, TOO_MANY_STATES, accept};
 
 /// A query of two: each of its states stands for a state of the first and a state of the second.
 #[derive(Drop)]
@@ -21,15 +15,15 @@ pub struct Both<A, B> {
 impl<A: Query, B: Query> Both<A, B> {
     /// Whether this query of two accepts the word: exactly where both accept it; or never, where the two sizes have a product above 32.
     pub fn accepts(&self, word: &[u32]) -> bool
-        ensures answer { Decides result (Accepts (meaning_of A.Query.meaning B.Query.meaning self.now) word.now) }
-        ensures law { AcceptsBoth (A.Query.meaning self.now.first) (B.Query.meaning self.now.second) (meaning_of A.Query.meaning B.Query.meaning self.now) }
+        ensures answer { IsTrue result ↔ Accepts (meaning_of A.meaning B.meaning self.now) word.now }
+        ensures law { AcceptsBoth (A.meaning self.now.first) (B.meaning self.now.second) (meaning_of A.meaning B.meaning self.now) }
     {
         accept::accepts(self, word)
     }
 
     // Whether the number is a state. Where there would be too many states, none is.
     fn is_state(&self, state: u32) -> bool
-        ensures { result ≡ is_state (A.Query.meaning self.now.first) (B.Query.meaning self.now.second) state }
+        ensures { result ≡ is_state (A.meaning self.now.first) (B.meaning self.now.second) state }
     {
         let size = self.size();
         size <= MOST_STATES && state < size
@@ -37,7 +31,8 @@ impl<A: Query, B: Query> Both<A, B> {
 
     // The two states that the state stands for.
     fn parts(&self, state: u32) -> (u32, u32)
-        ensures { (result.0 ≡ first_of (B.Query.meaning self.now.second) state) × (result.1 ≡ second_of (B.Query.meaning self.now.second) state) }
+        ensures first { result.0 ≡ first_of (B.meaning self.now.second) state }
+        ensures second { result.1 ≡ second_of (B.meaning self.now.second) state }
     {
         let count = self.second.size();
         (state / count, state % count)
@@ -45,16 +40,16 @@ impl<A: Query, B: Query> Both<A, B> {
 }
 
 impl<A: Query, B: Query> Query for Both<A, B> {
-    ghost meaning = { meaning_of A.Query.meaning B.Query.meaning };
+    ghost meaning = { meaning_of A.meaning B.meaning };
 
-    ghost lawful = { λ q. both_lawful (A.Query.meaning q.first) (B.Query.meaning q.second) (A.Query.lawful q.first) (B.Query.lawful q.second) };
+    ghost lawful = { λ q. both_lawful (A.meaning q.first) (B.meaning q.second) (A.lawful q.first) (B.lawful q.second) };
 
     fn size(&self) -> u32 {
         let pairs = self.first.size() * self.second.size();
         if pairs <= MOST_STATES {
             pairs
         } else {
-            TOO_MANY
+            TOO_MANY_STATES
         }
     }
 

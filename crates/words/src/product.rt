@@ -1,12 +1,13 @@
 // Words tried on products of machines.
+use crate::yes_or_no;
 use expression::fault::Fault;
 use expression::machine::Machine;
 use query::both::Both;
 use query::{Query, accept};
-use std::fmt;
+use std::{array, fmt};
 
 /// Why a word is not tried.
-#[derive(Clone, Copy)]
+#[derive(Clone, Copy, Debug, PartialEq, Eq)]
 pub enum Refusal {
     /// The payload ends inside an expression, or before one.
     Cut,
@@ -15,13 +16,13 @@ pub enum Refusal {
 }
 
 impl From<Fault> for Refusal {
-    fn from(fault: Fault) -> Refusal {
+    fn from(fault: Fault) -> Self {
         Refusal::Expression(fault)
     }
 }
 
 /// What a product says of its size and of a word.
-#[derive(Clone, Copy)]
+#[derive(Clone, Copy, Debug, PartialEq, Eq)]
 pub struct Verdict {
     size: u32,
     accepted: bool,
@@ -29,14 +30,13 @@ pub struct Verdict {
 
 impl fmt::Display for Verdict {
     fn fmt<W: fmt::Write>(&self, f: &mut fmt::Formatter<W>) -> fmt::Result {
-        let size = self.size;
-        let answer = if self.accepted { "yes" } else { "no" };
-        write!(f, "both {size} {answer}")
+        write!(f, "both {} {}", self.size, yes_or_no(self.accepted))
     }
 }
 
-// What is left of a command's words: expressions, each with its word count before it, and then the labels of a word.
-#[derive(Drop)]
+// What is left of a command's words: expressions, each with its word count before it, and then the labels of a word. All the
+// expressions are taken before one is read, so that a cut payload is told before a faulty expression.
+#[derive(Debug, PartialEq, Eq, Drop)]
 struct Payload<'a> {
     rest: &'a [u32],
 }
@@ -44,22 +44,17 @@ struct Payload<'a> {
 impl<'a> Payload<'a> {
     // Takes the next expression.
     fn expression(&mut self) -> Result<&'a [u32], Refusal> {
-        let [count, rest @ ..] = self.rest else {
-            return Err(Refusal::Cut);
-        };
-        let count = *count as usize;
-        if rest.len() < count {
-            return Err(Refusal::Cut);
-        }
-        self.rest = &rest[count..];
-        Ok(&rest[0..count])
+        let (count, rest) = self.rest.split_first().ok_or(Refusal::Cut)?;
+        let (expression, rest) = rest.split_at_checked(*count as usize).ok_or(Refusal::Cut)?;
+        self.rest = rest;
+        Ok(expression)
     }
 }
 
 /// Tries a word on the product of two machines.
 pub(crate) fn of_two(words: &[u32]) -> Result<Verdict, Refusal> {
     let mut payload = Payload { rest: words };
-    let (a, b) = (payload.expression()?, payload.expression()?);
+    let [a, b]: [_; 2] = array::try_from_fn(|_| payload.expression())?;
     let both = pair(machine_of(a)?, machine_of(b)?);
     Ok(try_word(&both, payload.rest))
 }
@@ -67,11 +62,7 @@ pub(crate) fn of_two(words: &[u32]) -> Result<Verdict, Refusal> {
 /// Tries a word on the product of the first two machines' product and the third.
 pub(crate) fn of_two_and_one(words: &[u32]) -> Result<Verdict, Refusal> {
     let mut payload = Payload { rest: words };
-    let (a, b, c) = (
-        payload.expression()?,
-        payload.expression()?,
-        payload.expression()?,
-    );
+    let [a, b, c]: [_; 3] = array::try_from_fn(|_| payload.expression())?;
     let both = pair(pair(machine_of(a)?, machine_of(b)?), machine_of(c)?);
     Ok(try_word(&both, payload.rest))
 }
@@ -79,11 +70,7 @@ pub(crate) fn of_two_and_one(words: &[u32]) -> Result<Verdict, Refusal> {
 /// Tries a word on the product of the first machine and the other two's product.
 pub(crate) fn of_one_and_two(words: &[u32]) -> Result<Verdict, Refusal> {
     let mut payload = Payload { rest: words };
-    let (a, b, c) = (
-        payload.expression()?,
-        payload.expression()?,
-        payload.expression()?,
-    );
+    let [a, b, c]: [_; 3] = array::try_from_fn(|_| payload.expression())?;
     let both = pair(machine_of(a)?, pair(machine_of(b)?, machine_of(c)?));
     Ok(try_word(&both, payload.rest))
 }

@@ -1,7 +1,8 @@
 // A machine is a query.
+ghost use Rattle.std.specs.Prelude.{◌≡◌};
 ghost use Rattle.expression.specs.Machines.{machine_meaning, machine_lawful};
 
-use crate::machine::{MOST_STATES, Machine};
+use crate::machine::Machine;
 use query::Query;
 
 impl Query for Machine {
@@ -10,18 +11,21 @@ impl Query for Machine {
     ghost lawful = { machine_lawful };
 
     fn size(&self) -> u32 {
-        self.letters + 1
+        self.positions.len() as u32
     }
 
     fn accepting(&self, state: u32) -> bool {
-        masks::has(self.accepting, state)
+        self.accepting.contains(state)
     }
 
+    #[tactic(auto, using(crate::proofs::Machines::no_move))]
     fn moves(&self, state: u32, label: u32, next: u32) -> bool {
-        let (s, t) = (state as usize, next as usize);
-        s < MOST_STATES
-            && t < MOST_STATES
-            && masks::has(self.follow[s], next)
-            && self.labels[t] == label
+        let (Some(from), Some(to)) = (
+            self.positions.get(state as usize),
+            self.positions.get(next as usize),
+        ) else {
+            return false;
+        };
+        from.next.contains(next) && to.label == label
     }
 }

@@ -14,9 +14,7 @@ pub returns : goal.returns
 returns c =
     let r : Reader = record { words = c.args.words; place = 0; depth = 0; machine = c.empty.result } in
     let fresh : Fresh c.args.words.now r = record { words = refl; place = refl; depth = refl; empty = c.empty.ensures } in
-    let read = c.in_ok-whole.ensures.read in
-    let done = c.finish.ensures in (
+    let read = c.in_ok-whole.ensures.read in (
       no_fault c.args.words.now r fresh _ _ read c.if-reader-words.false,
-      fills c.args.words.now r fresh _ _ read c.if-reader-words.false _ done.letters
-          (record { labels = done.labels; ends = done.ends; start = done.start; follow = done.follow }),
+      fills c.args.words.now r fresh _ _ read c.if-reader-words.false _ c.finish.ensures,
     )

@@ -1,20 +1,32 @@
-use Rattle.std.proofs.Common.{Bool, ◌&&◌, eqb, get_or, replicate, refl, ap, arith}
+use Rattle.std.proofs.Common.{◌≡◌, Bool, ◌&&◌, eqb, get_or, length, [], ◌∷◌, ◌++◌, ap, ◌∙◌, arith}
 use Rattle.std.proofs.lemmas.Bool.{both_ways}
 use Rattle.masks.proofs.Laws.{member_none}
-use Rattle.expression.proofs.Machines.{zeros_at, zeros_link}
+use Rattle.expression.proofs.Machines.{push_row, push_small, push_zero}
+use Rattle.expression.specs.Rows.{labels_in, rows_in}
+use Rattle.masks.specs.Members.{member}
 use Rattle.expression.proofs.machine.Machine.empty.Goals as goal
 
 pub invariant_of-result : goal.invariant_of-result
-invariant_of-result c = record {
-  few = omega arith;
-  names = refl;
-  rows = refl;
-  ends = λ s e. absurd (both_ways _ (member_none s) e);
-  from = λ s t e. absurd (both_ways _ (zeros_link 32 s t) e);
-  into = λ s t e. absurd (both_ways _ (zeros_link 32 s t) e);
-  within = λ s t e. absurd (both_ways _ (zeros_link 32 s t) e);
-  labelled = λ t. omega (arith, zeros_at 32 t);
-}
+invariant_of-result c =
+    rw (c.push.ensures.items, c.new-positions.ensures)
+    (record {
+      start = omega arith;
+      few = omega arith;
+      ends = λ s e. absurd (both_ways _ (rw c.none.ensures (member_none s)) e);
+      into = λ s t e. absurd (both_ways _ (push_row [] c.default.result c.default.ensures.1 s t ∙ member_none t) e);
+      within = λ s t e. absurd (both_ways _ (push_row [] c.default.result c.default.ensures.1 s t ∙ member_none t) e);
+      labelled = λ t. push_small [] c.default.result t (λ s. omega arith) (omega (arith, c.default.ensures.0));
+    })
 
 pub returns : goal.returns
-returns c = record { size = refl; ends = member_none; steps = λ s l t. ap (λ (b : Bool). b && eqb (get_or (replicate 32 0) t 0) l) (zeros_link 32 s t); labels = zeros_at 32 }
+returns c =
+    let p = c.default.result in
+    let items : c.push.new.self.items ≡ p ∷ [] = c.push.ensures.items ∙ ap (λ ps. ps ++ p ∷ []) c.new-positions.ensures in
+    record {
+      size = ap length items;
+      ends = λ s. rw c.none.ensures (member_none s);
+      steps = λ s l t.
+          ap (λ (b : Bool). b && eqb (get_or (labels_in c.push.new.self.items) t 0) l)
+          (ap (λ ps. member (get_or (rows_in ps) s 0) t) items ∙ push_row [] p c.default.ensures.1 s t ∙ member_none t);
+      labels = λ t. ap (λ ps. get_or (labels_in ps) t 0) items ∙ ap (λ n. get_or (n ∷ []) t 0) c.default.ensures.0 ∙ push_zero [] t;
+    }

@@ -1,17 +1,21 @@
-use Rattle.std.proofs.Common.{ℕ, ◌≤◌, ◌∙◌, arith, length-set}
-use Rattle.expression.proofs.Machines.{set_keeps}
+use Rattle.std.proofs.Common.{[], ◌∷◌, sym, ◌∙◌, arith}
+use Rattle.std.proofs.lemmas.List.{length-append}
+use Rattle.expression.specs.declared.machine.Position.{Position}
+use Rattle.expression.proofs.Machines.{push_row, push_small}
 use Rattle.expression.proofs.machine.Machine.letter.Goals as goal
 
 pub invariant_of-self : goal.invariant_of-self
 invariant_of-self c =
     let m = c.args.self.now in
-    record {
-      few = omega arith;
-      names = length-set m.labels _ _ ∙ m.names;
-      rows = m.rows;
-      ends = λ s e. omega (arith, m.ends s e);
-      from = λ s t e. omega (arith, m.from s t e);
-      into = m.into;
-      within = λ s t e. omega (arith, m.within s t e);
-      labelled = set_keeps (λ (x : ℕ). x ≤ 15) m.labels _ _ (omega arith) c.requires.label m.labelled;
-    }
+    let ps = m.positions.items in
+    let p : Position = record { label = c.args.label; next = c.none.result } in
+    let longer = length-append ps (p ∷ []) in
+    rw c.push.ensures.items
+    (record {
+      start = omega (arith, longer);
+      few = omega (arith, longer, m.start);
+      ends = λ s e. omega (arith, m.ends s e, longer);
+      into = λ s t e. m.into s t (sym (push_row ps p c.none.ensures s t) ∙ e);
+      within = λ s t e. omega (arith, m.within s t (sym (push_row ps p c.none.ensures s t) ∙ e), longer);
+      labelled = λ t. push_small ps p t m.labelled c.requires.label;
+    })

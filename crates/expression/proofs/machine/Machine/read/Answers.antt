@@ -1,4 +1,4 @@
-use Rattle.std.proofs.Common.{sym, refl, ◌∙◌, inl, inr, ⊎_elim, arith, rules}
+use Rattle.std.proofs.Common.{sym, refl, ◌∙◌, inl, inr, ⊎_elim, arith}
 use Rattle.std.proofs.lemmas.Result.{err_from_is_err_and}
 use Rattle.std.proofs.lemmas.Bool.{eqb-true, eqb-false}
 use Rattle.expression.proofs.Whole.{refused, refused_count}
@@ -14,4 +14,4 @@ pub returns-in_err-self : goal.returns-in_err-self
 returns-in_err-self c =
     let p = err_from_is_err_and c.from_residual.result c.from_residual.ensures.1 in
     let some = eqb-false _ 0 (sym c.is_empty.ensures ∙ c.if-is_empty.false) in
-    rw (p.1, p.2) (refused c.args.words.now c.in_err-self.field-0.0 (omega arith) (search rules) c.in_err-self.ensures, refl)
+    rw (p.1, p.2) (refused c.args.words.now c.in_err-self.field-0.0 (omega arith) c.if-words-gt-MOST_WORDS.false c.in_err-self.ensures, refl)

@@ -2,4 +2,4 @@ use Rattle.expression.proofs.Machines.{Linked}
 use Rattle.expression.proofs.machine.build.link_all.Given as goal
 
 abbrev pub invariant-loop-state : goal.invariant-loop-state
-invariant-loop-state l = Linked l.initial.follow l.follow l.from l.to l.state
+invariant-loop-state l = Linked l.initial.positions l.positions l.from l.to l.state

@@ -9,9 +9,6 @@ use Rattle.expression.proofs.reader.Reader.+expression_group_piece_sequence.Goal
 pub expression-returns-in_default : goal.expression-returns-in_default
 expression-returns-in_default t c = record { read = read_as Sequence Expression (λ _ _ _. last_sequence) _ _ _ c.in_ok-left.ensures.read; next = search rules }
 
-pub expression-returns-in_default-2 : goal.expression-returns-in_default-2
-expression-returns-in_default-2 t c = record { read = read_as Sequence Expression (λ _ _ _. last_sequence) _ _ _ c.in_ok-left.ensures.read; next = search rules }
-
 pub expression-returns : goal.expression-returns
 expression-returns t c =
     let bar : Peeked c.sequence.new.self (Ok (Some Bar)) = search rules in
@@ -46,10 +43,9 @@ sequence-returns-then-not-begins_piece t c = record {
 pub sequence-returns : goal.sequence-returns
 sequence-returns t c =
     let begins = begins_at c.piece.new.self c.in_ok-next.next c.in_ok-next.ensures (sym c.begins_piece.ensures ∙ c.if-not-begins_piece.false) in
-    let e = c.link.ensures in
     record {
       read =
           read_sequence _ _ _ _ _ _ _ c.in_ok-front.ensures.read begins c.in_ok-back.ensures.read
-          (record { letters = e.letters; labels = e.labels; follow = e.follow }) c.then.ensures;
+          c.link.ensures c.then.ensures;
       next = c.in_ok-back.ensures.next;
     }

@@ -8,9 +8,6 @@ use Rattle.expression.proofs.reader.Reader.+repeats.Goals.{in-Some-Star, in-Some
 pub returns-in_default : goal.returns-in_default
 returns-in_default t c = record { read = repeated_none c.args.self.now c.args.part c.requires.ready.0; next = search rules }
 
-pub returns-in_default-2 : goal.returns-in_default-2
-returns-in_default-2 t c = record { read = repeated_none c.args.self.now c.args.part c.requires.ready.0; next = search rules }
-
 pub returns : goal.returns
 returns t c = record {
   read =
@@ -18,11 +15,11 @@ returns t c = record {
       elim c.match-branch-3.branch [
         | in-Some-Star w ↦
             let e = w.star-repeated.ensures in
-            repeated_at r _ _ _ Star star c.args.part _ _ _ (repeat_star r _ c.args.part (search rules) (record { letters = e.letters; labels = e.labels; follow = e.follow })) w.self-is (w.repeated-is ∙ e.value)
+            repeated_at r _ _ _ Star star c.args.part _ _ _ (repeat_star r _ c.args.part (search rules) e.links) w.self-is (w.repeated-is ∙ e.value)
             c.repeats.ensures.read
         | in-Some-Plus w ↦
             let e = w.plus-repeated.ensures in
-            repeated_at r _ _ _ Plus plus c.args.part _ _ _ (repeat_plus r _ c.args.part (search rules) (record { letters = e.letters; labels = e.labels; follow = e.follow })) w.self-is (w.repeated-is ∙ e.value)
+            repeated_at r _ _ _ Plus plus c.args.part _ _ _ (repeat_plus r _ c.args.part (search rules) e.links) w.self-is (w.repeated-is ∙ e.value)
             c.repeats.ensures.read
         | in-Some-Maybe w ↦
             repeated_at r _ _ _ Maybe maybe c.args.part _ _ _ (repeat_maybe r c.args.part (search rules)) w.self-is (w.repeated-is ∙ w.or_nothing-repeated.ensures)

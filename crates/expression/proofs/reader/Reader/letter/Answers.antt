@@ -1,6 +1,6 @@
 use Rattle.expression.proofs.Progress.{label_small}
 use Rattle.expression.proofs.Readings.{read_letter}
-use Rattle.std.proofs.Common.{arith}
+use Rattle.std.proofs.Common.{sym, arith}
 use Rattle.expression.proofs.reader.Reader.letter.Goals as goal
 
 pub letter-state-requires : goal.letter-state-requires
@@ -9,4 +9,4 @@ letter-state-requires c = record { room = omega arith; label = label_small _ _ c
 pub returns : goal.returns
 returns c =
     let made = c.letter-state.ensures in
-    read_letter c.args.self.now _ c.args.label _ c.letter-state.result c.requires.next (omega arith) made.value made.letters made.labels made.follow c.with-own.ensures
+    read_letter c.args.self.now _ c.args.label _ c.letter-state.result c.requires.next (omega arith) made.value made.labels made.rows (rw (sym c.none.ensures) c.with-own.ensures)
