@@ -1,4 +1,1 @@
-pub mod Fronts
 pub mod Words
-pub mod Starts
-pub mod Puts

@@ -1,36 +1,18 @@
--- The words of a tape's bytes, counted and one by one.
-use Rattle.std.proofs.Common.{◌≡◌, ℕ, zero, suc, ◌+◌, ◌*◌, ◌/◌, ◌<◌, List, [], ◌∷◌, length, get_or, refl, ◌∙◌, arith}
+-- The words of a tape's bytes, from its fours.
+use Rattle.std.proofs.Common.{◌≡◌, ℕ, suc, ◌/◌, List, [], ◌∷◌, length, map, refl, arith, w32}
+use Rattle.std.specs.Int.{from_le_bytes}
+use Rattle.std.specs.Simd.{first_chunks}
 use Rattle.records.specs.Loading.{words_of, word_of_bytes}
 
-pub words_length : (bs : List ℕ) → length (words_of bs) ≡ length bs / 4
-words_length [] = refl
-words_length (a ∷ []) = refl
-words_length (a ∷ b ∷ []) = refl
-words_length (a ∷ b ∷ c ∷ []) = refl
-words_length (a ∷ b ∷ c ∷ d ∷ bs) = omega (arith, words_length bs)
-
--- The word of the four bytes from a place on.
-abbrev pub word_at : List ℕ → ℕ → ℕ
-word_at bs p = word_of_bytes (get_or bs p 0) (get_or bs (p + 1) 0) (get_or bs (p + 2) 0) (get_or bs (p + 3) 0)
-
-pub words_at : (bs : List ℕ) (i : ℕ) → i < length (words_of bs) → get_or (words_of bs) i 0 ≡ word_at bs (4 * i)
-words_at [] i h = absurd (omega arith)
-words_at (a ∷ []) i h = absurd (omega arith)
-words_at (a ∷ b ∷ []) i h = absurd (omega arith)
-words_at (a ∷ b ∷ c ∷ []) i h = absurd (omega arith)
-words_at (a ∷ b ∷ c ∷ d ∷ bs) zero h = refl
-words_at (a ∷ b ∷ c ∷ d ∷ bs) (suc i) h =
-    words_at bs i (omega arith)
-    ∙ (λ j. word_of_bytes (get_or (a ∷ b ∷ c ∷ d ∷ bs) (e0 j) 0) (get_or (a ∷ b ∷ c ∷ d ∷ bs) (e1 j) 0) (get_or (a ∷ b ∷ c ∷ d ∷ bs) (e2 j) 0) (get_or (a ∷ b ∷ c ∷ d ∷ bs) (e3 j) 0))
+pub words_of_fours : (bytes : List ℕ) → map (from_le_bytes w32) (first_chunks 4 (length bytes / 4) bytes) ≡ words_of bytes
+words_of_fours [] = refl
+words_of_fours (a ∷ []) = refl
+words_of_fours (a ∷ b ∷ []) = refl
+words_of_fours (a ∷ b ∷ c ∷ []) = refl
+words_of_fours (a ∷ b ∷ c ∷ d ∷ bytes) = rw more (λ i. word i ∷ words_of_fours bytes i)
   where
-    e0 : suc (suc (suc (suc (4 * i)))) ≡ 4 * suc i
-    e0 = omega arith
+    more : length (a ∷ b ∷ c ∷ d ∷ bytes) / 4 ≡ suc (length bytes / 4)
+    more = omega arith
 
-    e1 : suc (suc (suc (suc (4 * i + 1)))) ≡ 4 * suc i + 1
-    e1 = omega arith
-
-    e2 : suc (suc (suc (suc (4 * i + 2)))) ≡ 4 * suc i + 2
-    e2 = omega arith
-
-    e3 : suc (suc (suc (suc (4 * i + 3)))) ≡ 4 * suc i + 3
-    e3 = omega arith
+    word : from_le_bytes w32 (a ∷ b ∷ c ∷ d ∷ []) ≡ word_of_bytes a b c d
+    word = omega arith

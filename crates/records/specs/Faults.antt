@@ -2,6 +2,7 @@
 use Rattle.std.specs.Prelude.{ℕ, ◌+◌, ◌-◌, ◌^◌, min}
 use Rattle.expression.specs.Faults.{cause_number}
 use Rattle.watch.specs.Refusals.{refusal_number}
+use Rattle.records.specs.declared.fault.TapeFault.{TapeFault}
 use Rattle.records.specs.declared.fault.TapeFault.TheVariants.{Short, Stray, TooLong, Expression}
 use Rattle.records.specs.declared.fault.RunFault.{RunFault}
 use Rattle.records.specs.declared.fault.RunFault.TheVariants.{Tape, Watch}
@@ -14,22 +15,29 @@ layer_of (Tape TooLong) = 2
 layer_of (Tape (Expression f)) = 1
 layer_of (Watch x) = 3
 
--- The number by which a fault is told.
+-- The number by which a fault is told, first of the tape's.
+abbrev pub tape_number : TapeFault → ℕ
+tape_number (Short w) = 30
+tape_number (Stray w) = 31
+tape_number TooLong = 32
+tape_number (Expression f) = cause_number f.cause
+
 abbrev pub number_of : RunFault → ℕ
-number_of (Tape (Short w)) = 30
-number_of (Tape (Stray w)) = 31
-number_of (Tape TooLong) = 32
-number_of (Tape (Expression f)) = cause_number f.cause
+number_of (Tape f) = tape_number f
 number_of (Watch x) = refusal_number x
 
 -- The largest number of 64 bits. A fault's place could in principle reach it; an expression's never passes 256.
 abbrev pub largest : ℕ
 largest = 2 ^ 64 - 1
 
--- The expression begins at word 2 of the tape. A tape that is too long is faulty where it passes its limit.
+-- The word at which a fault is, first of the tape's. The expression begins at word 2 of the tape. A tape that is too long is faulty where
+-- it passes its limit.
+abbrev pub tape_word : TapeFault → ℕ
+tape_word (Short w) = w
+tape_word (Stray w) = w
+tape_word TooLong = 2048
+tape_word (Expression f) = min (f.place + 2) largest
+
 abbrev pub word_of : RunFault → ℕ
-word_of (Tape (Short w)) = w
-word_of (Tape (Stray w)) = w
-word_of (Tape TooLong) = 2048
-word_of (Tape (Expression f)) = min (f.place + 2) largest
+word_of (Tape f) = tape_word f
 word_of (Watch x) = 0

@@ -1,5 +1,5 @@
 -- The bytes of a printed line.
-use Rattle.std.specs.Prelude.{◌≡◌, ℕ, ◌+◌, ◌<◌, ◌≤◌, List, [], ◌∷◌, ◌++◌, length, take, drop, Ok, Err, codes, decimal, Result}
+use Rattle.std.specs.Prelude.{◌≡◌, ℕ, ◌<◌, ◌≤◌, List, [], ◌∷◌, ◌++◌, length, drop, Ok, Err, codes, decimal, Result}
 use Rattle.records.specs.declared.line.Line.{Line}
 use Rattle.records.specs.declared.line.Line.TheVariants.{Start, Fault, End}
 use Rattle.records.specs.declared.line.LineRefusal.{LineRefusal}
@@ -16,10 +16,6 @@ abbrev pub line_bytes : Line → List ℕ
 line_bytes (Start n size) = codes "start" ++ fields (n ∷ size ∷ [])
 line_bytes (Fault f) = codes "fault" ++ fields (layer_of f ∷ number_of f ∷ word_of f ∷ [])
 line_bytes (End records announced withdrawn) = codes "end" ++ fields (records ∷ announced ∷ withdrawn ∷ [])
-
--- The bytes stand in the memory from `at` on, and the rest of it is as it was.
-abbrev pub Puts : List ℕ → ℕ → List ℕ → List ℕ → Type 0
-Puts memory at bytes memory' = memory' ≡ take at memory ++ (bytes ++ drop (at + length bytes) memory)
 
 -- The bytes stand at the front of the memory, and the rest of it is as it was. Where they have no room, nothing changes.
 abbrev pub Writes : List ℕ → List ℕ → List ℕ → Result ℕ LineRefusal → Type 0

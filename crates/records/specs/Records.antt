@@ -1,25 +1,37 @@
 -- What a tape's words say. Other bits than those named are zero.
 use Rattle.std.specs.Prelude.{ℕ, ◌+◌, ◌-◌, ◌*◌, ◌/◌, ◌%◌, Bool, cond, List, [], ◌∷◌, length, take, Some, None, Ok, Err, Option, Result, ◌==◌, nat_lt, slice_index}
+use Rattle.watch.specs.declared.triple.Triple.{Triple}
 use Rattle.records.specs.declared.fault.TapeFault.{TapeFault}
 use Rattle.records.specs.declared.fault.TapeFault.TheVariants.{Short, Stray}
+use Rattle.records.specs.declared.record.Start.{Start}
 use Rattle.records.specs.declared.record.Record.{Record}
 use Rattle.records.specs.declared.record.Record.TheVariants as record_of
 
+-- A start as plain values.
+pub record StartShape : Type 0 where
+  pub n : ℕ
+  pub window : ℕ
+  pub expression : List ℕ
+
 -- A record as plain values.
 pub data Shape : Type 0 where
-  start : (n window : ℕ) → (expression : List ℕ) → Shape
+  start : StartShape → Shape
   advance : (clock : ℕ) → Shape
-  add : (from to label : ℕ) → Shape
-  drop : (from to label : ℕ) → Shape
+  add : (link : Triple) → Shape
+  drop : (link : Triple) → Shape
+
+-- The plain values of a start and of a record.
+abbrev pub plain_start : Start → StartShape
+plain_start s = record { n = s.n; window = s.window; expression = s.expression.now }
 
 abbrev pub shape_of : Record → Shape
-shape_of (record_of.Start n window expression) = start n window expression.now
+shape_of (record_of.Start s) = start (plain_start s)
 shape_of (record_of.Advance clock) = advance clock
-shape_of (record_of.Add from to label) = add from to label
-shape_of (record_of.Drop from to label) = drop from to label
+shape_of (record_of.Add link) = add link
+shape_of (record_of.Drop link) = drop link
 
-abbrev pub seen_start : Result Record TapeFault → Result Shape TapeFault
-seen_start (Ok r) = Ok (shape_of r)
+abbrev pub seen_start : Result Start TapeFault → Result StartShape TapeFault
+seen_start (Ok s) = Ok (plain_start s)
 seen_start (Err f) = Err f
 
 abbrev pub seen_record : Result (Option Record) TapeFault → Result (Option Shape) TapeFault
@@ -43,13 +55,13 @@ is_window w = w / 0x10000000 == 9
 
 -- The start of a tape with these whole words: the first two words, and then the expression, which is a part of the tape.
 -- A tape that ends inside the start is faulty at the count of its words.
-abbrev pub start_shape : List ℕ → Result Shape TapeFault
+abbrev pub start_shape : List ℕ → Result StartShape TapeFault
 start_shape [] = Err (Short 0)
 start_shape (w ∷ []) = cond (is_start w) (Err (Short 1)) (Err (Stray 0))
 start_shape (w ∷ v ∷ ws) =
     cond (is_start w)
     (cond (is_window v)
-    (cond (nat_lt (length ws) (count_in w)) (Err (Short (length ws + 2))) (Ok (start (points_in w) (v - 0x90000000) (take (count_in w) ws))))
+    (cond (nat_lt (length ws) (count_in w)) (Err (Short (length ws + 2))) (Ok (record { n = points_in w; window = v - 0x90000000; expression = take (count_in w) ws })))
     (Err (Stray 1)))
     (Err (Stray 0))
 
@@ -70,11 +82,14 @@ label_in w = w / 65536 % 16
 abbrev pub link_in : ℕ → ℕ
 link_in w = 65536 * label_in w + 256 * from_in w + to_in w
 
+abbrev pub triple_in : ℕ → Triple
+triple_in w = record { from = from_in w; to = to_in w; label = label_in w }
+
 abbrev pub word_shape : ℕ → Option Shape
 word_shape w =
     cond (is_advance w) (Some (advance (w % 0x10000000)))
-    (cond (w == 0xB0000000 + link_in w) (Some (add (from_in w) (to_in w) (label_in w)))
-    (cond (w == 0xC0000000 + link_in w) (Some (drop (from_in w) (to_in w) (label_in w))) None))
+    (cond (w == 0xB0000000 + link_in w) (Some (add (triple_in w)))
+    (cond (w == 0xC0000000 + link_in w) (Some (drop (triple_in w))) None))
 
 abbrev pub seen_word : Option Record → Option Shape
 seen_word None = None

@@ -11,7 +11,7 @@ use Rattle.records.specs.declared.fault.TapeFault.TheVariants.{Expression}
 use Rattle.records.specs.declared.fault.RunFault.{RunFault}
 use Rattle.records.specs.declared.fault.RunFault.TheVariants.{Tape, Watch}
 use Rattle.records.specs.declared.start.Begun.{Begun}
-use Rattle.records.specs.Records.{Shape, start, advance, add, drop, start_shape}
+use Rattle.records.specs.Records.{StartShape, plain_start, start_shape}
 
 -- The program has 2,048 arrival records.
 abbrev pub arrivals : ℕ
@@ -23,20 +23,15 @@ read_fault (Some f) = Some (Expression f)
 read_fault None = None
 
 -- What comes before the opening: the start is not whole or has a stray word, or else its expression is refused.
-abbrev pub shape_fault : Result Shape TapeFault → Option TapeFault
+abbrev pub shape_fault : Result StartShape TapeFault → Option TapeFault
 shape_fault (Err f) = Some f
-shape_fault (Ok (start n window e)) = read_fault (reading_fault e)
-shape_fault (Ok (advance clock)) = None
-shape_fault (Ok (add from to label)) = None
-shape_fault (Ok (drop from to label)) = None
+shape_fault (Ok s) = read_fault (reading_fault s.expression)
 
--- The numbers, the expression and the place after it are those of the start, and the machine is the expression's.
+-- The start is the tape's, and the machine is its expression's.
 pub record Holds (ws : List ℕ) (b : Begun) : Type 0 where
-  pub expression : List ℕ
-  pub shape : start_shape ws ≡ Ok (start b.n b.window expression)
-  pub reads : reading_fault expression ≡ None
-  pub fills : Fills expression b.machine
-  pub place : b.place ≡ length expression + 2
+  pub shape : start_shape ws ≡ Ok (plain_start b.start)
+  pub reads : reading_fault b.start.expression.now ≡ None
+  pub fills : Fills b.start.expression.now b.machine
 
 -- A start that can be read, or its fault.
 abbrev pub ReadsStart : List ℕ → Result Begun TapeFault → Type 0
@@ -44,20 +39,18 @@ ReadsStart ws (Ok b) = Holds ws b
 ReadsStart ws (Err f) = shape_fault (start_shape ws) ≡ Some f
 
 -- The number of the refusal, if there is one, when a watch of n points is opened over the expression's machine and the program's arrival records.
-abbrev pub opens : ℕ → ℕ → List ℕ → Option ℕ
-opens n window e = first_of (open_refusals arrivals n window (length (letters_of e) + 1))
+abbrev pub opens : StartShape → Option ℕ
+opens s = first_of (open_refusals arrivals s.n s.window (length (letters_of s.expression) + 1))
 
 -- A start that can be read is refused where the opening is.
 pub record NotOpened (ws : List ℕ) (x : Refusal) : Type 0 where
-  pub n : ℕ
-  pub window : ℕ
-  pub expression : List ℕ
-  pub shape : start_shape ws ≡ Ok (start n window expression)
-  pub reads : reading_fault expression ≡ None
-  pub refused : opens n window expression ≡ Some (refusal_number x)
+  pub start : StartShape
+  pub shape : start_shape ws ≡ Ok start
+  pub reads : reading_fault start.expression ≡ None
+  pub refused : opens start ≡ Some (refusal_number x)
 
 -- A start is refused by its own fault or its expression's, or else by the opening's.
 abbrev pub Begins : List ℕ → Result Begun RunFault → Type 0
-Begins ws (Ok b) = (h : Holds ws b) × (opens b.n b.window h.expression ≡ None)
+Begins ws (Ok b) = Holds ws b × (opens (plain_start b.start) ≡ None)
 Begins ws (Err (Tape f)) = shape_fault (start_shape ws) ≡ Some f
 Begins ws (Err (Watch x)) = NotOpened ws x

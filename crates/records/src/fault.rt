@@ -2,14 +2,14 @@
 ghost use Rattle.std.specs.Prelude.{◌≡◌};
 ghost use Rattle.records.specs.declared.fault.TapeFault.TheVariants.{Expression};
 ghost use Rattle.records.specs.declared.fault.RunFault.TheVariants.{Tape, Watch};
-ghost use Rattle.records.specs.Faults.{layer_of, number_of, word_of};
+ghost use Rattle.records.specs.Faults.{tape_number, tape_word, layer_of, number_of, word_of};
 
 use crate::load::MOST_WORDS;
 use expression::fault::Fault;
 use watch::refusal::Refusal;
 
 /// Why a tape can't be read on.
-#[derive(Clone, Copy)]
+#[derive(Clone, Copy, Debug, PartialEq, Eq)]
 pub enum TapeFault {
     /// The tape ends inside a record; the word is the count of whole words.
     Short { word: usize },
@@ -18,30 +18,57 @@ pub enum TapeFault {
     /// The tape has more than 8,192 bytes.
     TooLong,
     /// The start's expression is refused.
-    Expression { fault: Fault },
+    Expression(Fault),
 }
 
+// Each `From` is written by hand, since clauses need to know what it gives.
 impl From<Fault> for TapeFault {
     ghost from_gives = { λ f r. r ≡ Expression f };
 
     fn from(fault: Fault) -> TapeFault {
-        TapeFault::Expression { fault }
+        TapeFault::Expression(fault)
+    }
+}
+
+impl TapeFault {
+    /// The number by which the fault is told to users.
+    pub fn number(self) -> u32
+        ensures { result ≡ tape_number self }
+    {
+        match self {
+            TapeFault::Short { .. } => 30,
+            TapeFault::Stray { .. } => 31,
+            TapeFault::TooLong => 32,
+            TapeFault::Expression(fault) => fault.cause.number(),
+        }
+    }
+
+    /// The word of the tape at which the fault is. The expression begins at word 2.
+    pub fn word(self) -> usize
+        ensures { result ≡ tape_word self }
+    {
+        match self {
+            TapeFault::Short { word } | TapeFault::Stray { word } => word,
+            TapeFault::TooLong => MOST_WORDS,
+            TapeFault::Expression(fault) => fault.place.saturating_add(2),
+        }
     }
 }
 
 /// Why the run of a tape ends before the tape does.
-#[derive(Clone, Copy)]
+#[derive(Clone, Copy, Debug, PartialEq, Eq)]
 pub enum RunFault {
-    Tape { fault: TapeFault },
+    /// The tape can't be read on.
+    Tape(TapeFault),
     /// The watch can't be opened.
-    Watch { refusal: Refusal },
+    Watch(Refusal),
 }
 
 impl From<TapeFault> for RunFault {
     ghost from_gives = { λ f r. r ≡ Tape f };
 
     fn from(fault: TapeFault) -> RunFault {
-        RunFault::Tape { fault }
+        RunFault::Tape(fault)
     }
 }
 
@@ -49,7 +76,7 @@ impl From<Refusal> for RunFault {
     ghost from_gives = { λ f r. r ≡ Watch f };
 
     fn from(refusal: Refusal) -> RunFault {
-        RunFault::Watch { refusal }
+        RunFault::Watch(refusal)
     }
 }
 
@@ -59,11 +86,9 @@ impl RunFault {
         ensures { result ≡ layer_of self }
     {
         match self {
-            RunFault::Tape { fault } => match fault {
-                TapeFault::Expression { .. } => 1,
-                _ => 2,
-            },
-            RunFault::Watch { .. } => 3,
+            RunFault::Tape(TapeFault::Expression(_)) => 1,
+            RunFault::Tape(_) => 2,
+            RunFault::Watch(_) => 3,
         }
     }
 
@@ -72,28 +97,18 @@ impl RunFault {
         ensures { result ≡ number_of self }
     {
         match self {
-            RunFault::Tape { fault } => match fault {
-                TapeFault::Short { .. } => 30,
-                TapeFault::Stray { .. } => 31,
-                TapeFault::TooLong => 32,
-                TapeFault::Expression { fault } => fault.cause.number(),
-            },
-            RunFault::Watch { refusal } => refusal.number(),
+            RunFault::Tape(fault) => fault.number(),
+            RunFault::Watch(refusal) => refusal.number(),
         }
     }
 
-    /// The word of the tape at which the fault is. The expression begins at word 2; an opening is refused at word 0.
+    /// The word of the tape at which the fault is. An opening is refused at word 0.
     pub fn word(self) -> usize
         ensures { result ≡ word_of self }
     {
         match self {
-            RunFault::Tape { fault } => match fault {
-                TapeFault::Short { word } => word,
-                TapeFault::Stray { word } => word,
-                TapeFault::TooLong => MOST_WORDS,
-                TapeFault::Expression { fault } => fault.place.saturating_add(2),
-            },
-            RunFault::Watch { .. } => 0,
+            RunFault::Tape(fault) => fault.word(),
+            RunFault::Watch(_) => 0,
         }
     }
 }

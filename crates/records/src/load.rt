@@ -1,6 +1,5 @@
 // From a tape's bytes to its words, low byte first.
-ghost use Rattle.std.specs.Prelude.{◌≡◌, ◌+◌, ◌≤◌, length, slice_index};
-ghost use Rattle.records.specs.Loading.{Loads, word_of_bytes};
+ghost use Rattle.records.specs.Loading.{Loads};
 
 use crate::fault::TapeFault;
 
@@ -20,20 +19,10 @@ pub fn load(bytes: &[u8], memory: &mut [u32; MOST_WORDS]) -> Result<usize, TapeF
     if bytes.len() > MOST_BYTES {
         return Err(TapeFault::TooLong);
     }
-    let count = bytes.len() / 4;
-    for i in 0..count {
-        memory[i] = word_at(bytes, 4 * i);
+    let (whole, _) = bytes.as_chunks::<4>();
+    // By index, since no contract says what is written through an `iter_mut` that is zipped.
+    for (index, four) in whole.iter().enumerate() {
+        memory[index] = u32::from_le_bytes(*four);
     }
-    Ok(count)
-}
-
-// The word of the four bytes from `at` on.
-fn word_at(bytes: &[u8], at: usize) -> u32
-    requires { at + 4 ≤ length bytes.now }
-    ensures { result ≡ word_of_bytes (slice_index bytes.now at) (slice_index bytes.now (at + 1)) (slice_index bytes.now (at + 2)) (slice_index bytes.now (at + 3)) }
-{
-    u32::from(bytes[at])
-        + 256
-            * (u32::from(bytes[at + 1])
-                + 256 * (u32::from(bytes[at + 2]) + 256 * u32::from(bytes[at + 3])))
+    Ok(whole.len())
 }

@@ -1,108 +1,137 @@
 // The records of a tape. The first is the start, with the expression; each further record is one word.
-ghost use Rattle.std.specs.Prelude.{◌≡◌};
+ghost use Rattle.std.specs.Prelude.{◌≡◌, ◌/◌, ◌%◌, length};
+ghost use Rattle.records.specs.declared.fault.TapeFault.TheVariants.{Short};
+ghost use Rattle.records.specs.declared.record.Record.TheVariants.{Start as start_record};
 ghost use Rattle.records.specs.Records.{start_shape, record_shape, word_shape, seen_start, seen_record, seen_word};
 
 use crate::fault::TapeFault;
+use watch::triple::Triple;
 
-/// A record. The start borrows the expression's words from the tape; the others hold numbers.
-#[derive(Clone, Copy)]
-pub enum Record<'a> {
-    Start {
-        n: u32,
-        window: u32,
-        expression: &'a [u32],
-    },
-    Advance {
-        clock: u32,
-    },
-    Add {
-        from: u32,
-        to: u32,
-        label: u32,
-    },
-    Drop {
-        from: u32,
-        to: u32,
-        label: u32,
-    },
+/// What a tape's start says: the number of points, the window in milliseconds, and the expression's words, a part of the tape.
+#[derive(Clone, Copy, Debug, PartialEq, Eq)]
+pub struct Start<'a> {
+    pub n: u32,
+    pub window: u32,
+    pub expression: &'a [u32],
 }
 
-const START: u32 = 0x8000_0000;
+/// A record. The start borrows the expression's words from the tape; the others hold numbers.
+#[derive(Clone, Copy, Debug, PartialEq, Eq)]
+pub enum Record<'a> {
+    Start(Start<'a>),
+    /// The clock's new time, in milliseconds.
+    Advance { clock: u32 },
+    Add(Triple),
+    Drop(Triple),
+}
 
-const WINDOW: u32 = 0x9000_0000;
+impl<'a> From<Start<'a>> for Record<'a> {
+    ghost from_gives = { λ s r. r ≡ start_record s };
 
-const ADVANCE: u32 = 0xA000_0000;
+    fn from(start: Start<'a>) -> Record<'a> {
+        Record::Start(start)
+    }
+}
 
-const ADD: u32 = 0xB000_0000;
+/// The whole words of a tape, and whether bytes follow the last of them.
+#[derive(Clone, Copy, Debug, PartialEq, Eq)]
+pub struct Tape<'a> {
+    pub words: &'a [u32],
+    pub cut: bool,
+}
 
-const DROP: u32 = 0xC000_0000;
+// The kinds of words, in the top four bits.
+const START: u32 = 0x8;
+
+const WINDOW: u32 = 0x9;
+
+const ADVANCE: u32 = 0xA;
+
+const ADD: u32 = 0xB;
+
+const DROP: u32 = 0xC;
 
 const KIND_BITS: u32 = 28;
 
-/// The start record of a tape with these whole words.
-///
-/// Refused, from the left, are a word that does not belong there, and a tape that ends inside the start, at the count of its words.
-pub fn start(words: &[u32]) -> Result<Record<'_>, TapeFault>
-    ensures { seen_start result ≡ start_shape words.now }
-{
-    let [first, ..] = words else {
-        return Err(TapeFault::Short { word: words.len() });
-    };
-    let (n, count) = (*first % 256, *first / 256 % 512);
-    if *first != START + 256 * count + n {
-        return Err(TapeFault::Stray { word: 0 });
+// The count of an expression's words has nine bits.
+const MOST_COUNT: u32 = 511;
+
+// A label has four bits.
+const LAST_LABEL: u32 = 15;
+
+impl<'a> Tape<'a> {
+    /// The tape's start.
+    ///
+    /// Refused, from the left, are a word that does not belong there, and a tape that ends inside the start, at the count of its words.
+    pub fn start(&self) -> Result<Start<'a>, TapeFault>
+        ensures { seen_start result ≡ start_shape self.now.words.now }
+    {
+        let (first, rest) = self.words.split_first().ok_or(self.short())?;
+        let (kind, low) = split(*first);
+        let (n, count) = (low % 256, low / 256);
+        if kind != START || count > MOST_COUNT {
+            return Err(TapeFault::Stray { word: 0 });
+        }
+        let (second, rest) = rest.split_first().ok_or(self.short())?;
+        let (kind, window) = split(*second);
+        if kind != WINDOW {
+            return Err(TapeFault::Stray { word: 1 });
+        }
+        let expression = rest.get(..count as usize).ok_or(self.short())?;
+        Ok(Start {
+            n,
+            window,
+            expression,
+        })
     }
-    let [_, second, rest @ ..] = words else {
-        return Err(TapeFault::Short { word: words.len() });
-    };
-    if *second >> KIND_BITS != WINDOW >> KIND_BITS {
-        return Err(TapeFault::Stray { word: 1 });
+
+    /// The record at a place after the start, or none at the end of the tape.
+    ///
+    /// Refused are a word that does not belong there, and a tape that ends inside a record, at the count of its words.
+    pub fn next(&self, place: usize) -> Result<Option<Record<'a>>, TapeFault>
+        ensures { seen_record result ≡ record_shape self.now.words.now self.now.cut place }
+    {
+        match self.words.get(place) {
+            Some(word) => decode(*word)
+                .map(Some)
+                .ok_or(TapeFault::Stray { word: place }),
+            None if self.cut => Err(self.short()),
+            None => Ok(None),
+        }
     }
-    let count = count as usize;
-    if rest.len() < count {
-        return Err(TapeFault::Short { word: words.len() });
+
+    // The tape ends inside a record.
+    fn short(&self) -> TapeFault
+        ensures { result ≡ Short (length self.now.words.now) }
+    {
+        TapeFault::Short {
+            word: self.words.len(),
+        }
     }
-    Ok(Record::Start {
-        n,
-        window: *second - WINDOW,
-        expression: &rest[0..count],
-    })
 }
 
-/// The record at a place after the start, or none at the end of the tape. `cut` says that bytes follow the last whole word.
-///
-/// Refused are a word that does not belong there, and a tape that ends inside a record, at the count of its words.
-pub fn next(words: &[u32], cut: bool, place: usize) -> Result<Option<Record<'_>>, TapeFault>
-    ensures { seen_record result ≡ record_shape words.now cut place }
+// A word's kind, and the number in its other 28 bits.
+fn split(word: u32) -> (u32, u32)
+    ensures kind { result.0 ≡ word / 0x10000000 }
+    ensures low { result.1 ≡ word % 0x10000000 }
 {
-    if place >= words.len() {
-        return if cut {
-            Err(TapeFault::Short { word: words.len() })
-        } else {
-            Ok(None)
-        };
-    }
-    match decode(words[place]) {
-        Some(record) => Ok(Some(record)),
-        None => Err(TapeFault::Stray { word: place }),
-    }
+    (word >> KIND_BITS, word % (1 << KIND_BITS))
 }
 
 // The record that one word stands for, or none.
 fn decode(word: u32) -> Option<Record<'static>>
     ensures { seen_word result ≡ word_shape word }
 {
-    let below = word % (1 << KIND_BITS);
-    if word - below == ADVANCE {
-        return Some(Record::Advance { clock: below });
+    let (kind, low) = split(word);
+    let link = Triple {
+        from: low / 256 % 256,
+        to: low % 256,
+        label: low / 65_536,
+    };
+    match kind {
+        ADVANCE => Some(Record::Advance { clock: low }),
+        ADD if link.label <= LAST_LABEL => Some(Record::Add(link)),
+        DROP if link.label <= LAST_LABEL => Some(Record::Drop(link)),
+        _ => None,
     }
-    let (to, from, label) = (word % 256, word / 256 % 256, word / 65_536 % 16);
-    let link = 65_536 * label + 256 * from + to;
-    if word == ADD + link {
-        return Some(Record::Add { from, to, label });
-    }
-    if word == DROP + link {
-        return Some(Record::Drop { from, to, label });
-    }
-    None
 }

@@ -1,55 +1,50 @@
 // How a tape's start is run: its expression is read, and a watch over it can be opened.
+ghost use Rattle.std.specs.Prelude.{◌≡◌, ◌+◌, length};
 ghost use Rattle.records.specs.Starts.{Begins, ReadsStart};
 
 use crate::fault::{RunFault, TapeFault};
-use crate::record;
-use crate::record::Record;
+use crate::record::{Start, Tape};
 use expression::machine::Machine;
 use watch::opening;
 
 /// How many arrival records the program has.
 pub const ARRIVALS: usize = 2048;
 
-/// What a tape's start says, with its expression's machine, and the place of the first record after it.
+/// What a tape's start says, with its expression's machine.
 #[derive(Drop)]
-pub struct Begun {
-    pub n: u32,
-    pub window: u32,
+pub struct Begun<'a> {
+    pub start: Start<'a>,
     pub machine: Machine,
-    pub place: usize,
 }
 
-/// Runs the start of a tape with these whole words.
+impl Begun<'_> {
+    /// The place of the first record after the start.
+    pub fn place(&self) -> usize
+        ensures { result ≡ length self.now.start.expression.now + 2 }
+    {
+        self.start.expression.len() + 2
+    }
+}
+
+/// Runs the start of a tape.
 ///
 /// Refused are, in this order: a start that is not whole or has a word that does not belong there; its expression; and
 /// what opening a watch over 2,048 arrival records refuses.
-pub fn begin(words: &[u32]) -> Result<Begun, RunFault>
-    ensures { Begins words.now result }
+pub fn begin<'a>(tape: &Tape<'a>) -> Result<Begun<'a>, RunFault>
+    ensures { Begins tape.now.words.now result }
 {
-    let begun = read(words)?;
-    opening::check(begun.n, begun.window, &begun.machine, ARRIVALS)?;
+    let begun = read(tape)?;
+    let Start { n, window, .. } = begun.start;
+    opening::check(n, window, &begun.machine, ARRIVALS)?;
     Ok(begun)
 }
 
-// The start record, with its expression read.
-fn read(words: &[u32]) -> Result<Begun, TapeFault>
-    ensures { ReadsStart words.now result }
+// The start, with its expression read.
+fn read<'a>(tape: &Tape<'a>) -> Result<Begun<'a>, TapeFault>
+    ensures { ReadsStart tape.now.words.now result }
 {
-    let Record::Start {
-        n,
-        window,
-        expression,
-    } = record::start(words)?
-    else {
-        unreachable()
-    };
+    let start = tape.start()?;
     let mut machine = Machine::empty();
-    machine.read(expression)?;
-    let place = expression.len() + 2;
-    Ok(Begun {
-        n,
-        window,
-        machine,
-        place,
-    })
+    machine.read(start.expression)?;
+    Ok(Begun { start, machine })
 }

@@ -3,16 +3,16 @@ ghost use Rattle.std.specs.Prelude.{◌≡◌};
 ghost use Rattle.watch.specs.Refusals.{refusal_number};
 
 /// Why a call is refused.
-#[derive(Clone, Copy)]
+#[derive(Clone, Copy, Debug, PartialEq, Eq)]
 pub enum Refusal {
     /// The number of points is 0 or above 64.
-    Points,
+    Points = 3,
     /// The window is 0 or above the last clock.
-    Window,
+    Window = 4,
     /// The query has too many states.
-    States,
+    States = 5,
     /// The arrival memory has fewer than n × n × size records.
-    Arrivals,
+    Arrivals = 6,
 }
 
 impl Refusal {
@@ -20,11 +20,6 @@ impl Refusal {
     pub fn number(self) -> u32
         ensures { result ≡ refusal_number self }
     {
-        match self {
-            Refusal::Points => 3,
-            Refusal::Window => 4,
-            Refusal::States => 5,
-            Refusal::Arrivals => 6,
-        }
+        self as u32
     }
 }

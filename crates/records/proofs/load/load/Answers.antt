@@ -1,19 +1,14 @@
-use Rattle.std.proofs.Common.{sym, refl, ◌∙◌, arith, length-set}
-use Rattle.records.proofs.Fronts.{over_none, over_more, over_all}
-use Rattle.records.proofs.Words.{words_length, words_at}
+use Rattle.std.proofs.Common.{◌≡◌, ℕ, ◌+◌, ◌<◌, List, ◌++◌, length, get_or, set, take, drop, map, arith, append_assoc, length-take-le}
+use Rattle.std.proofs.lemmas.List.{map_more, set_at, drop_more, take_all, length-map}
+use Rattle.records.proofs.Words.{words_of_fours}
 use Rattle.records.proofs.load.load.Goals as goal
 
-pub loop-i-init : goal.loop-i-init
-loop-i-init c = (c.told-memory, over_none _ _ (omega (arith, words_length c.args.bytes.now)))
+-- One more element over the front.
+over_more : {X : Type 0} (f : X → ℕ) (xs : List X) (d : X) (old now : List ℕ) (i x : ℕ) → i < length xs → i < length old → x ≡ f (get_or xs i d) → now ≡ map f (take i xs) ++ drop i old → set now i x ≡ map f (take (i + 1) xs) ++ drop (i + 1) old
+over_more f xs d old now i x more room is before = grind (arith, map_more f xs i d, set_at, drop_more old i 0, append_assoc, length-map, length-take-le)
 
-pub loop-i-preserved : goal.loop-i-preserved
-loop-i-preserved c =
-    let count = words_length c.args.bytes.now in (
-      length-set c.loop-i.memory _ _ ∙ c.loop-i.invariant.0,
-      over_more _ _ _ _ _ (omega arith) (c.word_at.ensures ∙ sym (words_at c.args.bytes.now c.loop-i.i (omega arith))) c.loop-i.invariant.1,
-    )
+pub loop-index-preserved : goal.loop-index-preserved
+loop-index-preserved c = over_more _ _ _ _ _ _ _ c.loop-index-test.true (omega arith) c.from_le_bytes.ensures c.loop-index.invariant
 
 pub returns : goal.returns
-returns c =
-    let count = words_length c.args.bytes.now in
-    (c.if-bytes-gt-MOST_BYTES.false, refl, over_all _ _ _ _ _ (omega arith) (omega arith) c.loop-i.invariant.1)
+returns c = grind (arith, take_all, words_of_fours)

@@ -1,7 +1,6 @@
-use Rattle.std.proofs.Common.{◌≡◌, length}
-use Rattle.records.specs.Loading.{words_of}
-use Rattle.records.proofs.Fronts.{Over}
+use Rattle.std.proofs.Common.{◌≡◌, ◌++◌, map, take, drop, w32}
+use Rattle.std.specs.Int.{from_le_bytes}
 use Rattle.records.proofs.load.load.Given as goal
 
-abbrev pub invariant-loop-i : goal.invariant-loop-i
-invariant-loop-i l = (length l.memory ≡ 2048) × Over (words_of l.bytes) l.initial.memory l.i l.memory
+abbrev pub invariant-loop-index : goal.invariant-loop-index
+invariant-loop-index l = l.memory ≡ map (from_le_bytes w32) (take l.index l.whole) ++ drop l.index l.initial.memory
