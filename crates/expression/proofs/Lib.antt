@@ -1,5 +1,4 @@
 pub mod Machines
-pub mod Scans
 pub mod Progress
 pub mod Fragments
 pub mod Positions

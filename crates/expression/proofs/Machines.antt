@@ -1,9 +1,9 @@
 -- A machine keeps its own law while it is built.
-use Rattle.std.proofs.Common.{◌≡◌, ◌≢◌, ℕ, ◌+◌, ◌<◌, ◌≤◌, Bool, true, false, ◌&&◌, ◌||◌, ltb, List, [], ◌∷◌, ◌++◌, length, get_or, set, ◌∙◌, sym, ap, subst, ◌⊎◌, inl, inr, ⊎_elim, arith}
+use Rattle.std.proofs.Common.{◌≡◌, ℕ, ◌+◌, ◌<◌, ◌≤◌, true, false, ◌&&◌, ◌||◌, ltb, List, [], ◌∷◌, ◌++◌, length, get_or, set, ◌∙◌, ap, ◌⊎◌, ⊎_elim, arith}
 use Rattle.std.specs.List.{refill}
-use Rattle.std.proofs.lemmas.Grind.{common_steps}
-use Rattle.std.proofs.lemmas.List.{length-map, map-append, map-set, length-set, get_or-set_same, get_or-set_other, get_or-map}
-use Rattle.std.proofs.lemmas.Bool.{cases_eq, cases_Bool}
+use Rattle.std.proofs.lemmas.Grind.{common_steps, get_or-set_at}
+use Rattle.std.proofs.lemmas.List.{length-map, map-append, map-set, length-set, get_or-set_other, get_or-map}
+use Rattle.std.proofs.lemmas.Bool.{cases_Bool}
 use Rattle.std.proofs.lemmas.Bool.Decides.{nat_tests}
 use Rattle.std.proofs.Math.Seq.{map-set_same}
 use Rattle.masks.specs.Members.{member}
@@ -54,52 +54,9 @@ pub link_one : (old new : List Position) (from to k : ℕ) (p d : Position) → 
 link_one old new from to k p d sofar here label next = record {
   places = length-set new k p ∙ sofar.places;
   labels = map-set_same (λ q. q.label) new k p d label ∙ sofar.labels;
-  rows = λ s t. ap (λ rs. member (get_or rs s 0) t) (map-set (λ q. q.next) new k p) ∙ ⊎_elim (λ e. rw e (at_k t)) (elsewhere s t) (cases_eq s k);
+  rows = λ s t. grind (arith, nat_tests, map-set (λ q. q.next) new k p, length-map new (λ q. q.next), get_or-map (λ q. q.next) new k d 0, get_or-set_at, get_or-set_other, sofar.rows s t, sofar.rows k t, next t);
 }
-  where
-    at_k : (t : ℕ) → member (get_or (set (rows_in new) k p.next) k 0) t ≡ (member (get_or (rows_in old) k 0) t || ((ltb k (k + 1) && member from k) && member to t))
-    at_k t =
-        ap (λ (x : ℕ). member x t) (get_or-set_same (rows_in new) k p.next 0 (omega (arith, length-map new (λ q. q.next), sofar.places)))
-        ∙ next t ∙ ap (λ (x : ℕ). member x t || (member from k && member to t)) (sym (get_or-map (λ q. q.next) new k d 0 (omega (arith, sofar.places))))
-        ∙ ap (λ (b : Bool). b || (member from k && member to t)) (sofar.rows k t) ∙ settle (member (get_or (rows_in old) k 0) t) (member to t) (member from k)
-      where
-        settle : (a b c : Bool) → ((a || ((ltb k k && c) && b)) || (c && b)) ≡ (a || ((ltb k (k + 1) && c) && b))
-        settle a b c = grind (arith, nat_tests)
-
-    elsewhere : (s t : ℕ) → s ≢ k → member (get_or (set (rows_in new) k p.next) s 0) t ≡ (member (get_or (rows_in old) s 0) t || ((ltb s (k + 1) && member from s) && member to t))
-    elsewhere s t other =
-        ap (λ (x : ℕ). member x t) (get_or-set_other (rows_in new) k s p.next 0 other) ∙ sofar.rows s t
-        ∙ settle (member (get_or (rows_in old) s 0) t) (member to t) (member from s)
-      where
-        settle : (a b c : Bool) → (a || ((ltb s k && c) && b)) ≡ (a || ((ltb s (k + 1) && c) && b))
-        settle a b c = grind (arith, nat_tests, other)
-
--- Which is so where the code joins them in, and where it leaves the place alone.
-pub joined : (x a b c : Bool) → x ≡ (a || b) → c ≡ true → x ≡ (a || (c && b))
-joined x a b c e f = grind (arith, nat_tests)
-
-pub left_alone : (a b c : Bool) → c ≡ false → a ≡ (a || (c && b))
-left_alone a b c f = grind (arith, nat_tests)
-
--- At the end the test of the place falls away, since no state from 32 on is in `from`.
-pub linked_all : (old new : List Position) (from to k : ℕ) → ((s : ℕ) → member from s ≡ true → s < k) → Linked old new from to k → (s t : ℕ) → member (get_or (rows_in new) s 0) t ≡ (member (get_or (rows_in old) s 0) t || (member from s && member to t))
-linked_all old new from to k within done s t = done.rows s t ∙ settle (member (get_or (rows_in old) s 0) t) (member to t) (member from s) (within s)
-  where
-    settle : (a b c : Bool) → (c ≡ true → s < k) → (a || ((ltb s k && c) && b)) ≡ (a || (c && b))
-    settle a b c h = grind (arith, nat_tests)
 
 -- A next state of a table after one place was put in is one of that place, or one of the table before.
 pub row_cases : (ps : List Position) (k : ℕ) (p : Position) (s t : ℕ) → k < length ps → member (get_or (rows_in (set ps k p)) s 0) t ≡ true → ((s ≡ k) × (member p.next t ≡ true)) ⊎ (member (get_or (rows_in ps) s 0) t ≡ true)
-row_cases ps k p s t inside e =
-    ⊎_elim
-    (λ same. inl (same, ap (λ (x : ℕ). member x t) (sym (get_or-set_same rs k p.next 0 within)) ∙ subst (λ x. member (get_or (set rs k p.next) x 0) t ≡ true) same e'))
-    (λ other. inr (ap (λ (x : ℕ). member x t) (sym (get_or-set_other rs k s p.next 0 other)) ∙ e')) (cases_eq s k)
-  where
-    rs : List ℕ
-    rs = rows_in ps
-
-    within : k < length rs
-    within = omega (arith, length-map ps (λ q. q.next))
-
-    e' : member (get_or (set rs k p.next) s 0) t ≡ true
-    e' = ap (λ xs. member (get_or xs s 0) t) (sym (map-set (λ q. q.next) ps k p)) ∙ e
+row_cases ps k p s t inside e = grind (arith, map-set (λ q. q.next) ps k p, length-map ps (λ q. q.next), get_or-set_at, get_or-set_other)

@@ -9,13 +9,13 @@ use Rattle.expression.specs.Rows.{labels_in}
 
 -- There are moves besides from each state of `from` to each of `to`.
 pub record Links (m m' : Machine) (from to : ℕ) : Type 0 where
-  pub letters : (letters_in m') ≡ (letters_in m)
+  pub letters : letters_in m' ≡ letters_in m
   pub labels : labels_in m'.positions.items ≡ labels_in m.positions.items
   pub follow : (s t : ℕ) → linked m' s t ≡ (linked m s t || (member from s && member to t))
 
 -- The part is the whole expression: its first letters follow the start, and its last ones accept, with the start where nothing will do.
 pub record Finished (m m' : Machine) (whole : Part) : Type 0 where
-  pub letters : (letters_in m') ≡ (letters_in m)
+  pub letters : letters_in m' ≡ letters_in m
   pub labels : labels_in m'.positions.items ≡ labels_in m.positions.items
   pub ends : (s : ℕ) → member m'.accepting s ≡ accepted whole s
   pub start : (t : ℕ) → linked m' 0 t ≡ member whole.first t

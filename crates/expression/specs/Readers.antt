@@ -23,7 +23,7 @@ left r = drop r.place r.words.now
 
 -- What the pass over the words knows where the reader is.
 abbrev pub scan_at : Reader → Bool → Scan
-scan_at r b = record { depth = r.depth; letters = (letters_in r.machine); begins = b }
+scan_at r b = record { depth = r.depth; letters = letters_in r.machine; begins = b }
 
 -- The fault that is still to come, or none.
 abbrev pub ahead : Reader → Bool → Option Fault
@@ -38,8 +38,7 @@ labels_at r = labels_in r.machine.positions.items ++ letters_of (left r)
 pub record Went (b : Bool) (r : Reader) (b' : Bool) (r' : Reader) : Type 0 where
   pub words : r'.words.now ≡ r.words.now
   pub place : r.place ≤ r'.place
-  pub within : r'.place ≤ length r'.words.now
-  pub letters : (letters_in r.machine) ≤ (letters_in r'.machine)
+  pub letters : letters_in r.machine ≤ letters_in r'.machine
   pub labels : labels_at r' ≡ labels_at r
   pub faults : ahead r b ≡ ahead r' b'
 
@@ -54,11 +53,11 @@ Spells m lo p t = Fragment (linked m) (label_of m) lo (letters_in m) p (Language
 
 -- The part's sets and the moves from its letters are those of the tree's positions.
 pub record Exact (m : Machine) (lo : ℕ) (p : Part) (t : Tree) : Type 0 where
-  pub count : (letters_in m) ≡ lo + letter_count t
+  pub count : letters_in m ≡ lo + letter_count t
   pub nullable : p.nullable ≡ may_be_empty t
   pub first : (x : ℕ) → member p.first x ≡ comes_first t lo x
   pub last : (x : ℕ) → member p.last x ≡ comes_last t lo x
-  pub after : (s x : ℕ) → lo < s → s ≤ (letters_in m) → linked m s x ≡ comes_after t lo s x
+  pub after : (s x : ℕ) → lo < s → s ≤ letters_in m → linked m s x ≡ comes_after t lo s x
 
 -- A reader has read a part that begins at r and ends at r', of this level of the grammar.
 pub record ReadPart (Level : List ℕ → List ℕ → Tree → Type 0) (r r' : Reader) (p : Part) : Type 0 where
@@ -105,46 +104,25 @@ Stopped test r (Err f) = Unit {0}
 
 -- A piece begins with a letter or an open.
 abbrev pub begins_piece : Option Symbol → Bool
-begins_piece None = false
 begins_piece (Some (Letter l)) = true
 begins_piece (Some Open) = true
-begins_piece (Some Close) = false
-begins_piece (Some Bar) = false
-begins_piece (Some Star) = false
-begins_piece (Some Plus) = false
-begins_piece (Some Maybe) = false
+begins_piece _ = false
 
 -- What may come after a piece, a sequence and an expression.
 abbrev pub after_piece : Symbol → Bool
-after_piece (Letter l) = true
-after_piece Open = true
-after_piece Close = true
-after_piece Bar = true
 after_piece Star = false
 after_piece Plus = false
 after_piece Maybe = false
+after_piece _ = true
 
 abbrev pub after_sequence : Symbol → Bool
-after_sequence (Letter l) = false
-after_sequence Open = false
 after_sequence Close = true
 after_sequence Bar = true
-after_sequence Star = false
-after_sequence Plus = false
-after_sequence Maybe = false
+after_sequence _ = false
 
 abbrev pub after_expression : Symbol → Bool
-after_expression (Letter l) = false
-after_expression Open = false
 after_expression Close = true
-after_expression Bar = false
-after_expression Star = false
-after_expression Plus = false
-after_expression Maybe = false
-
--- A reader within the words.
-abbrev pub Ready : Reader → Type 0
-Ready r = (r.place ≤ length r.words.now) × (r.depth ≤ 16)
+after_expression _ = false
 
 -- What a look at the next word tells: its symbol, the end, or a word that is none.
 abbrev pub Peeked : Reader → Result (Option Symbol) Fault → Type 0

@@ -1,5 +1,5 @@
 -- Where and why an expression is refused: one pass over its words from the left, which stops at the first fault.
-use Rattle.std.specs.Prelude.{◌≡◌, ℕ, ◌+◌, ◌-◌, ◌<◌, Bool, true, false, cond, ◌||◌, List, [], ◌∷◌, ◌++◌, length, Some, None, Option, ◌==◌, nat_lt}
+use Rattle.std.specs.Prelude.{◌≡◌, ℕ, ◌+◌, ◌-◌, ◌<◌, Bool, true, false, if◌then◌else◌, ◌||◌, List, [], ◌∷◌, ◌++◌, length, Some, None, Option, ◌==◌, nat_lt}
 use Rattle.expression.specs.declared.fault.Cause.{Cause}
 use Rattle.expression.specs.declared.fault.Cause.TheVariants.{WordCount, NotAWord, NoPiece, TooManyLetters, TooDeep, Unfinished}
 use Rattle.expression.specs.declared.fault.Fault.{Fault}
@@ -31,20 +31,20 @@ start = record { depth = 0; letters = 0; begins = true }
 
 -- What is wrong with a symbol there, if anything is.
 abbrev pub objection : Scan → Symbol → Option Cause
-objection s (Letter l) = cond (nat_lt s.letters most_letters) None (Some TooManyLetters)
-objection s Open = cond (nat_lt s.depth most_open) None (Some TooDeep)
-objection s Close = cond (s.begins || s.depth == 0) (Some NoPiece) None
-objection s Bar = cond s.begins (Some NoPiece) None
-objection s Star = cond s.begins (Some NoPiece) None
-objection s Plus = cond s.begins (Some NoPiece) None
-objection s Maybe = cond s.begins (Some NoPiece) None
+objection s (Letter l) = if nat_lt s.letters most_letters then None else Some TooManyLetters
+objection s Open = if nat_lt s.depth most_open then None else Some TooDeep
+objection s Close = if s.begins || s.depth == 0 then Some NoPiece else None
+objection s Bar = if s.begins then Some NoPiece else None
+objection s Star = if s.begins then Some NoPiece else None
+objection s Plus = if s.begins then Some NoPiece else None
+objection s Maybe = if s.begins then Some NoPiece else None
 
 -- What the pass knows after a symbol.
 abbrev pub onward : Scan → Symbol → Scan
-onward s (Letter l) = record { depth = s.depth; letters = s.letters + 1; begins = false }
-onward s Open = record { depth = s.depth + 1; letters = s.letters; begins = true }
-onward s Close = record { depth = s.depth - 1; letters = s.letters; begins = false }
-onward s Bar = record { depth = s.depth; letters = s.letters; begins = true }
+onward s (Letter l) = record s { letters = s.letters + 1; begins = false }
+onward s Open = record s { depth = s.depth + 1; begins = true }
+onward s Close = record s { depth = s.depth - 1; begins = false }
+onward s Bar = record s { begins = true }
 onward s Star = s
 onward s Plus = s
 onward s Maybe = s
@@ -61,12 +61,12 @@ judged p s (Some y) later = unless p (objection s y) (later y)
 
 -- The first fault of the words from place p on, or none. At their end nothing may be open, and no piece may be due.
 abbrev pub verdict : ℕ → Scan → List ℕ → Option Fault
-verdict p s [] = unless p (cond (s.begins || nat_lt 0 s.depth) (Some Unfinished) None) None
+verdict p s [] = unless p (if s.begins || nat_lt 0 s.depth then Some Unfinished else None) None
 verdict p s (w ∷ ws) = judged p s (symbol_of w) (λ y. verdict (p + 1) (onward s y) ws)
 
 -- The fault of a whole expression, or none.
 abbrev pub reading_fault : List ℕ → Option Fault
-reading_fault ws = unless 0 (cond (length ws == 0 || nat_lt most_words (length ws)) (Some WordCount) None) (verdict 0 start ws)
+reading_fault ws = unless 0 (if length ws == 0 || nat_lt most_words (length ws) then Some WordCount else None) (verdict 0 start ws)
 
 -- The label of a letter, and nothing of another symbol.
 abbrev pub spoken : Option Symbol → List ℕ

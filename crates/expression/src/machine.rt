@@ -14,7 +14,8 @@ use masks::States;
 /// How many states a machine can have, the start among them.
 pub const MOST_STATES: usize = query::MOST_STATES as usize;
 
-/// What a machine knows of one of its states: the label of its letter (0 for the start, which has none), and the states that may come next.
+/// What a machine knows of one of its states: the label of its letter, and the states that may come next. The start has no letter. It has
+/// label 0, which no call asks, since no move leads into it.
 #[derive(Clone, Copy, Debug, Default, PartialEq, Eq)]
 pub struct Position {
     pub label: u32,
@@ -22,7 +23,7 @@ pub struct Position {
 }
 
 /// A machine begins empty and is filled by an accepted reading.
-#[derive(Drop)]
+#[derive(Debug, PartialEq, Eq, Drop)]
 pub struct Machine {
     accepting: States,
     // the start, and then one for each letter

@@ -5,19 +5,21 @@ ghost use Rattle.expression.specs.Grammar.{Expression, Sequence, Piece, Atom};
 ghost use Rattle.expression.specs.Parts.{Within};
 ghost use Rattle.expression.specs.Machines.{letters_in};
 ghost use Rattle.expression.specs.Reading.{MachineOf};
-ghost use Rattle.expression.specs.Readers.{Ready, Peeked, Read, Repeated, Stopped, after_piece, after_sequence, after_expression, begins_piece};
+ghost use Rattle.expression.specs.Readers.{Peeked, Read, Repeated, Stopped, after_piece, after_sequence, after_expression};
 
 use crate::fault::{Cause, Fault};
-use crate::machine::Machine;
+use crate::machine::{MOST_STATES, Machine};
 use crate::part::Part;
 use crate::symbol::Symbol;
 use masks::States;
 
-const MOST_LETTERS: usize = 31;
+// A state for each letter, besides the start.
+const MOST_LETTERS: usize = MOST_STATES - 1;
 
 const MOST_OPEN: u32 = 16;
 
-/// A place in the words, how many opens are not closed there, and the machine of the letters so far.
+/// A place in the words, how many opens are not closed there, and the machine of the letters so far. The place is kept, and not the slice
+/// of the words that are left, since a fault tells it.
 #[derive(Drop)]
 pub struct Reader<'a> {
     words: &'a [u32],
@@ -49,7 +51,6 @@ impl<'a> Reader<'a> {
     // An expression: sequences parted by bars.
     #[cycle(expression_group_piece_sequence)]
     fn expression(&mut self) -> Result<Part, Fault>
-        requires { Ready self.old }
         ensures read { Read Expression self.old self.new result }
         ensures next { Stopped after_expression self.new result }
     {
@@ -65,15 +66,13 @@ impl<'a> Reader<'a> {
     // A sequence: one or more pieces.
     #[cycle(expression_group_piece_sequence)]
     fn sequence(&mut self) -> Result<Part, Fault>
-        requires { Ready self.old }
         ensures read { Read Sequence self.old self.new result }
         ensures next { Stopped after_sequence self.new result }
     {
         let front = self.piece()?;
-        let next = self.peek()?;
-        if !begins_piece(next) {
+        let Some(Symbol::Letter(_) | Symbol::Open) = self.peek()? else {
             return Ok(front);
-        }
+        };
         let back = self.sequence()?;
         self.machine.link(front.last, back.first);
         Ok(front.then(back))
@@ -82,7 +81,6 @@ impl<'a> Reader<'a> {
     // A piece: a letter or a group, with its repeats.
     #[cycle(expression_group_piece_sequence)]
     fn piece(&mut self) -> Result<Part, Fault>
-        requires { Ready self.old }
         ensures read { Read Piece self.old self.new result }
         ensures next { Stopped after_piece self.new result }
     {
@@ -98,8 +96,7 @@ impl<'a> Reader<'a> {
     // An expression between open and close.
     #[cycle(expression_group_piece_sequence)]
     fn group(&mut self) -> Result<Part, Fault>
-        requires ready { Ready self.old }
-        requires next { Peeked self.old (Ok (Some Open)) }
+        requires { Peeked self.old (Ok (Some Open)) }
         ensures { Read Atom self.old self.new result }
     {
         if self.depth >= MOST_OPEN {
@@ -118,8 +115,7 @@ impl<'a> Reader<'a> {
 
     // A letter.
     fn letter(&mut self, label: u32) -> Result<Part, Fault>
-        requires ready { Ready self.old }
-        requires next { Peeked self.old (Ok (Some (Letter label))) }
+        requires { Peeked self.old (Ok (Some (Letter label))) }
         ensures { Read Atom self.old self.new result }
     {
         if self.machine.letters() >= MOST_LETTERS {
@@ -137,8 +133,7 @@ impl<'a> Reader<'a> {
 
     // The stars, pluses and maybes after a part.
     fn repeats(&mut self, part: Part) -> Result<Part, Fault>
-        requires ready { Ready self.old }
-        requires own { Within 0 (letters_in self.old.machine) part }
+        requires { Within 0 (letters_in self.old.machine) part }
         ensures read { Repeated part self.old self.new result }
         ensures next { Stopped after_piece self.new result }
     {
@@ -156,13 +151,13 @@ impl<'a> Reader<'a> {
     fn peek(&self) -> Result<Option<Symbol>, Fault>
         ensures { Peeked self.now result }
     {
-        let Some(word) = self.words.get(self.place) else {
+        let Some(&word) = self.words.get(self.place) else {
             return Ok(None);
         };
-        match Symbol::try_from(*word) {
-            Ok(next) => Ok(Some(next)),
-            Err(_) => Err(self.fault(Cause::NotAWord)),
-        }
+        let Ok(next) = Symbol::try_from(word) else {
+            return Err(self.fault(Cause::NotAWord));
+        };
+        Ok(Some(next))
     }
 
     // The fault at the place reached.
@@ -174,11 +169,4 @@ impl<'a> Reader<'a> {
             place: self.place,
         }
     }
-}
-
-// Whether a piece can begin with this symbol.
-fn begins_piece(next: Option<Symbol>) -> bool
-    ensures { result ≡ begins_piece next }
-{
-    matches!(next, Some(Symbol::Letter(_) | Symbol::Open))
 }

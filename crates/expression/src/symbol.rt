@@ -15,7 +15,7 @@ pub enum Symbol {
 
 const LETTER: u32 = 0x1000_0000;
 
-const LAST_LETTER: u32 = 0x1000_000F;
+const LAST_LETTER: u32 = LETTER + query::LAST_LABEL;
 
 const OPEN: u32 = 0x2000_0000;
 

@@ -5,13 +5,13 @@ ghost use Rattle.std.specs.Prelude.{◌≡◌, ℕ, ◌<◌, ◌||◌, true, fal
 ghost use Rattle.masks.specs.Members.{member, with_member};
 
 use std::marker::Model;
-use std::ops::BitOr;
+use std::ops::{BitOr, BitOrAssign};
 
 /// A set has places for the states 0 to 31.
 pub const PLACES: u32 = 32;
 
 /// A set of states.
-#[derive(Clone, Copy, Debug, PartialEq, Eq)]
+#[derive(Clone, Copy, Debug, Default, PartialEq, Eq)]
 pub struct States {
     bits: u32,
 }
@@ -35,7 +35,8 @@ impl States {
 
     /// Whether the state is in the set. No state from 32 on is.
     pub fn contains(self, state: u32) -> bool
-        ensures { result ≡ member self state }
+        ensures answer { result ≡ member self state }
+        ensures within { (j : ℕ) → member self j ≡ true → j < 32 }
     {
         state < PLACES && (self.bits >> state) % 2 == 1
     }
@@ -51,45 +52,23 @@ impl States {
             bits: self.bits | (1 << state),
         }
     }
+}
 
-    /// The set of the states, of 0 to 31, that pass the test.
-    pub fn from_fn<F: Fn(u32) -> bool>(test: F) -> States
-        requires { F.IsAlwaysCallable test }
-        ensures inside { (j : ℕ) → member result j ≡ true → (j < 32) × F.post test j true }
-        ensures outside { (j : ℕ) → member result j ≡ false → j < 32 → F.post test j false }
-    {
-        let mut states = States::none();
-        for state in 0..PLACES {
-            if test(state) {
-                states = states.with(state);
-            }
-        }
-        states
-    }
+/// The set of the states whose bits are 1.
+impl From<u32> for States {
+    ghost from_gives = { λ bits s. s ≡ bits };
 
-    /// Whether some state of the set passes the test.
-    pub fn any<F: Fn(u32) -> bool>(self, test: F) -> bool
-        requires { F.IsAlwaysCallable test }
-        ensures yes { result ≡ true → (j : ℕ) × (member self j ≡ true) × F.post test j true }
-        ensures no { result ≡ false → (j : ℕ) → member self j ≡ true → F.post test j false }
-    {
-        // The number is read here, and not by `contains`, so that it is known to have 32 bits.
-        let bits = self.bits;
-        for state in 0..PLACES {
-            if (bits >> state) % 2 == 1 && test(state) {
-                return true;
-            }
-        }
-        false
+    fn from(bits: u32) -> States {
+        States { bits }
     }
 }
 
-/// The set of no state.
-impl Default for States {
-    ghost is_default = { λ s. s ≡ 0 };
+/// The number whose bit k says whether state k is in the set.
+impl From<States> for u32 {
+    ghost from_gives = { λ s bits. bits ≡ s };
 
-    fn default() -> States {
-        States::none()
+    fn from(states: States) -> u32 {
+        states.bits
     }
 }
 
@@ -103,5 +82,13 @@ impl BitOr for States {
         States {
             bits: self.bits | other.bits,
         }
+    }
+}
+
+impl BitOrAssign for States {
+    ghost bitor_assign_gives = { λ a b r. (j : ℕ) → member r j ≡ (member a j || member b j) };
+
+    fn bitor_assign(&mut self, other: States) {
+        self.bits |= other.bits;
     }
 }

@@ -1,9 +1,10 @@
 // Whether a query accepts a word: the set of states that the word read so far can lead to.
-ghost use Rattle.std.specs.Prelude.{ℕ, ◌↔◌, IsTrue};
+ghost use Rattle.std.specs.Prelude.{◌≡◌, ℕ, ◌<◌, ◌↔◌, true, false, IsTrue};
 ghost use Rattle.masks.specs.Members.{member};
+ghost use Rattle.query.specs.Meaning.{most_states};
 ghost use Rattle.query.specs.Words.{Accepts};
 
-use crate::Query;
+use crate::{MOST_STATES, Query};
 use masks::States;
 
 /// Whether the query accepts the word. A word with a label above 15 is not accepted.
@@ -14,12 +15,42 @@ pub fn accepts<Q: Query>(query: &Q, word: &[u32]) -> bool
     for label in word {
         states = after(query, states, *label);
     }
-    states.any(|state| query.accepting(state))
+    any(states, |state| query.accepting(state))
 }
 
 // The states that a move on the label can lead to from a state of the set.
 fn after<Q: Query>(query: &Q, from: States, label: u32) -> States
     ensures { (t : ℕ) → IsTrue (member result t) ↔ ((s : ℕ) × IsTrue (member from s) × IsTrue ((Q.meaning query.now).moves s label t)) }
 {
-    States::from_fn(|next| from.any(|state| query.moves(state, label, next)))
+    all_where(|next| any(from, |state| query.moves(state, label, next)))
+}
+
+// The states that pass the test.
+fn all_where<F: Fn(u32) -> bool>(test: F) -> States
+    requires { F.IsAlwaysCallable test }
+    ensures inside { (j : ℕ) → member result j ≡ true → (j < most_states) × F.post test j true }
+    ensures outside { (j : ℕ) → member result j ≡ false → j < most_states → F.post test j false }
+{
+    let mut states = States::none();
+    for state in 0..MOST_STATES {
+        if test(state) {
+            states = states.with(state);
+        }
+    }
+    states
+}
+
+// Whether some state of the set passes the test.
+fn any<F: Fn(u32) -> bool>(states: States, test: F) -> bool
+    requires { F.IsAlwaysCallable test }
+    ensures yes { result ≡ true → (j : ℕ) × (member states j ≡ true) × F.post test j true }
+    ensures no { result ≡ false → (j : ℕ) → member states j ≡ true → F.post test j false }
+{
+    // A loop, and not the iterator's `any`: that no state from 32 on is in the set is told by `contains`, and is lost inside a closure.
+    for state in 0..MOST_STATES {
+        if states.contains(state) && test(state) {
+            return true;
+        }
+    }
+    false
 }

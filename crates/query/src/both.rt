@@ -6,7 +6,7 @@ ghost use Rattle.query.specs.Both.{first_of, second_of, is_state, both_meaning, 
 use crate::{MOST_STATES, Query, TOO_MANY_STATES, accept};
 
 /// A query of two: each of its states stands for a state of the first and a state of the second.
-#[derive(Drop)]
+#[derive(Debug, PartialEq, Eq, Drop)]
 pub struct Both<A, B> {
     pub first: A,
     pub second: B,

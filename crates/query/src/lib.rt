@@ -13,6 +13,9 @@ pub const MOST_STATES: u32 = masks::PLACES;
 /// The size by which a query says that it would have more.
 pub const TOO_MANY_STATES: u32 = MOST_STATES + 1;
 
+/// A label is 0 to 15.
+pub const LAST_LABEL: u32 = 15;
+
 /// A query answers three questions about its meaning, with any values, and never refuses.
 /// Its answers are those of its meaning, and the meaning keeps the limits of every query.
 pub trait Query {

@@ -1,9 +1,11 @@
 -- What a tape's words say. Other bits than those named are zero.
-use Rattle.std.specs.Prelude.{ℕ, ◌+◌, ◌-◌, ◌*◌, ◌/◌, ◌%◌, Bool, cond, List, [], ◌∷◌, length, take, Some, None, Ok, Err, Option, Result, ◌==◌, nat_lt, slice_index}
+use Rattle.std.specs.Prelude.{◌≡◌, ℕ, ◌+◌, ◌-◌, ◌*◌, ◌/◌, ◌%◌, Bool, if◌then◌else◌, not, List, [], ◌∷◌, length, take, Some, None, Ok, Err, Option, Result, ◌==◌, nat_lt, slice_index}
+use Rattle.watch.specs.declared.opening.Opening.{Opening}
 use Rattle.watch.specs.declared.triple.Triple.{Triple}
 use Rattle.records.specs.declared.fault.TapeFault.{TapeFault}
 use Rattle.records.specs.declared.fault.TapeFault.TheVariants.{Short, Stray}
 use Rattle.records.specs.declared.record.Start.{Start}
+use Rattle.records.specs.declared.record.NotARecord.{NotARecord}
 use Rattle.records.specs.declared.record.Record.{Record}
 use Rattle.records.specs.declared.record.Record.TheVariants as record_of
 
@@ -20,18 +22,18 @@ pub data Shape : Type 0 where
   add : (link : Triple) → Shape
   drop : (link : Triple) → Shape
 
--- The plain values of a start and of a record.
-abbrev pub plain_start : Start → StartShape
-plain_start s = record { n = s.n; window = s.window; expression = s.expression.now }
+-- The plain values of a start, from what the watch is opened with and the expression's words, and those of a record.
+abbrev pub plain_start : Opening → List ℕ → StartShape
+plain_start o expression = record { n = o.n; window = o.window; expression = expression }
 
 abbrev pub shape_of : Record → Shape
-shape_of (record_of.Start s) = start (plain_start s)
+shape_of (record_of.Start s) = start (plain_start s.opening s.expression.now)
 shape_of (record_of.Advance clock) = advance clock
 shape_of (record_of.Add link) = add link
 shape_of (record_of.Drop link) = drop link
 
 abbrev pub seen_start : Result Start TapeFault → Result StartShape TapeFault
-seen_start (Ok s) = Ok (plain_start s)
+seen_start (Ok s) = Ok (plain_start s.opening s.expression.now)
 seen_start (Err f) = Err f
 
 abbrev pub seen_record : Result (Option Record) TapeFault → Result (Option Shape) TapeFault
@@ -57,13 +59,12 @@ is_window w = w / 0x10000000 == 9
 -- A tape that ends inside the start is faulty at the count of its words.
 abbrev pub start_shape : List ℕ → Result StartShape TapeFault
 start_shape [] = Err (Short 0)
-start_shape (w ∷ []) = cond (is_start w) (Err (Short 1)) (Err (Stray 0))
+start_shape (w ∷ []) = if is_start w then Err (Short 1) else Err (Stray 0)
 start_shape (w ∷ v ∷ ws) =
-    cond (is_start w)
-    (cond (is_window v)
-    (cond (nat_lt (length ws) (count_in w)) (Err (Short (length ws + 2))) (Ok (record { n = points_in w; window = v - 0x90000000; expression = take (count_in w) ws })))
-    (Err (Stray 1)))
-    (Err (Stray 0))
+    if not (is_start w) then Err (Stray 0)
+    else if not (is_window v) then Err (Stray 1)
+    else if nat_lt (length ws) (count_in w) then Err (Short (length ws + 2))
+    else Ok (record { n = points_in w; window = v - 0x90000000; expression = take (count_in w) ws })
 
 -- Each further record is one word: 0xA in the top four bits is an advance, with the clock in the other 28.
 abbrev pub is_advance : ℕ → Bool
@@ -87,13 +88,15 @@ triple_in w = record { from = from_in w; to = to_in w; label = label_in w }
 
 abbrev pub word_shape : ℕ → Option Shape
 word_shape w =
-    cond (is_advance w) (Some (advance (w % 0x10000000)))
-    (cond (w == 0xB0000000 + link_in w) (Some (add (triple_in w)))
-    (cond (w == 0xC0000000 + link_in w) (Some (drop (triple_in w))) None))
+    if is_advance w then Some (advance (w % 0x10000000))
+    else if w == 0xB0000000 + link_in w then Some (add (triple_in w))
+    else if w == 0xC0000000 + link_in w then Some (drop (triple_in w))
+    else None
 
-abbrev pub seen_word : Option Record → Option Shape
-seen_word None = None
-seen_word (Some r) = Some (shape_of r)
+-- What decoding a word answers: the record, or the word itself where it stands for none.
+abbrev pub Decodes : ℕ → Result Record NotARecord → Type 0
+Decodes w (Ok r) = word_shape w ≡ Some (shape_of r)
+Decodes w (Err e) = (word_shape w ≡ None) × (e.0 ≡ w)
 
 -- A word at its place: a record, or one that does not belong there.
 abbrev pub placed : ℕ → Option Shape → Result (Option Shape) TapeFault
@@ -102,4 +105,7 @@ placed p None = Err (Stray p)
 
 -- The record at a place after the start; at the end there is none, unless a word is cut there.
 abbrev pub record_shape : List ℕ → Bool → ℕ → Result (Option Shape) TapeFault
-record_shape ws cut p = cond (nat_lt p (length ws)) (placed p (word_shape (slice_index ws p))) (cond cut (Err (Short (length ws))) (Ok None))
+record_shape ws cut p =
+    if nat_lt p (length ws) then placed p (word_shape (slice_index ws p))
+    else if cut then Err (Short (length ws))
+    else Ok None

@@ -27,11 +27,13 @@ abbrev pub shape_fault : Result StartShape TapeFault → Option TapeFault
 shape_fault (Err f) = Some f
 shape_fault (Ok s) = read_fault (reading_fault s.expression)
 
--- The start is the tape's, and the machine is its expression's.
+-- What the watch is opened with and the place after the expression are those of the tape's start, and the machine is the expression's.
 pub record Holds (ws : List ℕ) (b : Begun) : Type 0 where
-  pub shape : start_shape ws ≡ Ok (plain_start b.start)
-  pub reads : reading_fault b.start.expression.now ≡ None
-  pub fills : Fills b.start.expression.now b.machine
+  pub expression : List ℕ
+  pub shape : start_shape ws ≡ Ok (plain_start b.opening expression)
+  pub reads : reading_fault expression ≡ None
+  pub fills : Fills expression b.machine
+  pub place : b.place ≡ length expression + 2
 
 -- A start that can be read, or its fault.
 abbrev pub ReadsStart : List ℕ → Result Begun TapeFault → Type 0
@@ -51,6 +53,6 @@ pub record NotOpened (ws : List ℕ) (x : Refusal) : Type 0 where
 
 -- A start is refused by its own fault or its expression's, or else by the opening's.
 abbrev pub Begins : List ℕ → Result Begun RunFault → Type 0
-Begins ws (Ok b) = Holds ws b × (opens (plain_start b.start) ≡ None)
+Begins ws (Ok b) = (h : Holds ws b) × (opens (plain_start b.opening h.expression) ≡ None)
 Begins ws (Err (Tape f)) = shape_fault (start_shape ws) ≡ Some f
 Begins ws (Err (Watch x)) = NotOpened ws x

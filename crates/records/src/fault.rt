@@ -6,22 +6,27 @@ ghost use Rattle.records.specs.Faults.{tape_number, tape_word, layer_of, number_
 
 use crate::load::MOST_WORDS;
 use expression::fault::Fault;
+use thiserror::Error;
 use watch::refusal::Refusal;
 
 /// Why a tape can't be read on.
-#[derive(Clone, Copy, Debug, PartialEq, Eq)]
+#[derive(Clone, Copy, Debug, PartialEq, Eq, Error)]
 pub enum TapeFault {
     /// The tape ends inside a record; the word is the count of whole words.
+    #[error("the tape ends inside a record, after {word} words")]
     Short { word: usize },
     /// A word that does not belong there.
+    #[error("word {word} does not belong there")]
     Stray { word: usize },
     /// The tape has more than 8,192 bytes.
+    #[error("the tape has more than 8,192 bytes")]
     TooLong,
     /// The start's expression is refused.
+    #[error("the expression is refused at {0}")]
     Expression(Fault),
 }
 
-// Each `From` is written by hand, since clauses need to know what it gives.
+// Each `From` is written by hand, and not derived with the errors, since clauses need to know what it gives.
 impl From<Fault> for TapeFault {
     ghost from_gives = { λ f r. r ≡ Expression f };
 
@@ -56,11 +61,13 @@ impl TapeFault {
 }
 
 /// Why the run of a tape ends before the tape does.
-#[derive(Clone, Copy, Debug, PartialEq, Eq)]
+#[derive(Clone, Copy, Debug, PartialEq, Eq, Error)]
 pub enum RunFault {
     /// The tape can't be read on.
+    #[error("{0}")]
     Tape(TapeFault),
     /// The watch can't be opened.
+    #[error("the watch can't be opened: {0}")]
     Watch(Refusal),
 }
 

@@ -6,6 +6,7 @@ use crate::fault::RunFault;
 use arrayvec::ArrayString;
 use itoa::Buffer;
 use std::fmt;
+use thiserror::Error;
 
 // No line has more bytes: a word of at most five, three numbers of at most 20 digits with a space before each, and the end.
 const LONGEST: usize = 69;
@@ -29,9 +30,10 @@ pub enum Line {
 }
 
 /// Why a line is not written.
-#[derive(Clone, Copy, Debug, PartialEq, Eq)]
+#[derive(Clone, Copy, Debug, PartialEq, Eq, Error)]
 pub enum LineRefusal {
     /// The memory is shorter than the line.
+    #[error("the memory is shorter than the line")]
     TooShort = 33,
 }
 
@@ -60,6 +62,7 @@ impl Line {
     pub fn write(self, memory: &mut [u8]) -> Result<usize, LineRefusal>
         ensures { Writes (line_bytes self) memory.old memory.new result }
     {
+        // The memory is the caller's and the count is answered, as in `load`.
         let text = self.text();
         let (front, _) = memory
             .split_at_mut_checked(text.len())

@@ -2,16 +2,17 @@
 ghost use Rattle.std.specs.Prelude.{◌≡◌, ◌/◌, ◌%◌, length};
 ghost use Rattle.records.specs.declared.fault.TapeFault.TheVariants.{Short};
 ghost use Rattle.records.specs.declared.record.Record.TheVariants.{Start as start_record};
-ghost use Rattle.records.specs.Records.{start_shape, record_shape, word_shape, seen_start, seen_record, seen_word};
+ghost use Rattle.records.specs.Records.{start_shape, record_shape, Decodes, seen_start, seen_record};
 
 use crate::fault::TapeFault;
+use query::LAST_LABEL;
+use watch::opening::Opening;
 use watch::triple::Triple;
 
-/// What a tape's start says: the number of points, the window in milliseconds, and the expression's words, a part of the tape.
+/// What a tape's start says: what the watch is opened with, and the expression's words, a part of the tape.
 #[derive(Clone, Copy, Debug, PartialEq, Eq)]
 pub struct Start<'a> {
-    pub n: u32,
-    pub window: u32,
+    pub opening: Opening,
     pub expression: &'a [u32],
 }
 
@@ -25,6 +26,7 @@ pub enum Record<'a> {
     Drop(Triple),
 }
 
+// A start is a record too, the first of a tape's.
 impl<'a> From<Start<'a>> for Record<'a> {
     ghost from_gives = { λ s r. r ≡ start_record s };
 
@@ -56,9 +58,6 @@ const KIND_BITS: u32 = 28;
 // The count of an expression's words has nine bits.
 const MOST_COUNT: u32 = 511;
 
-// A label has four bits.
-const LAST_LABEL: u32 = 15;
-
 impl<'a> Tape<'a> {
     /// The tape's start.
     ///
@@ -79,8 +78,7 @@ impl<'a> Tape<'a> {
         }
         let expression = rest.get(..count as usize).ok_or(self.short())?;
         Ok(Start {
-            n,
-            window,
+            opening: Opening { n, window },
             expression,
         })
     }
@@ -92,9 +90,9 @@ impl<'a> Tape<'a> {
         ensures { seen_record result ≡ record_shape self.now.words.now self.now.cut place }
     {
         match self.words.get(place) {
-            Some(word) => decode(*word)
+            Some(word) => Record::try_from(*word)
                 .map(Some)
-                .ok_or(TapeFault::Stray { word: place }),
+                .map_err(|_| TapeFault::Stray { word: place }),
             None if self.cut => Err(self.short()),
             None => Ok(None),
         }
@@ -118,20 +116,28 @@ fn split(word: u32) -> (u32, u32)
     (word >> KIND_BITS, word % (1 << KIND_BITS))
 }
 
-// The record that one word stands for, or none.
-fn decode(word: u32) -> Option<Record<'static>>
-    ensures { seen_word result ≡ word_shape word }
-{
-    let (kind, low) = split(word);
-    let link = Triple {
-        from: low / 256 % 256,
-        to: low % 256,
-        label: low / 65_536,
-    };
-    match kind {
-        ADVANCE => Some(Record::Advance { clock: low }),
-        ADD if link.label <= LAST_LABEL => Some(Record::Add(link)),
-        DROP if link.label <= LAST_LABEL => Some(Record::Drop(link)),
-        _ => None,
+/// A word that stands for no record after the start.
+#[derive(Clone, Copy, Debug, PartialEq, Eq)]
+pub struct NotARecord(pub u32);
+
+/// The record after the start that one word stands for.
+impl TryFrom<u32> for Record<'static> {
+    type Error = NotARecord;
+
+    ghost try_from_gives = { Decodes };
+
+    fn try_from(word: u32) -> Result<Record<'static>, NotARecord> {
+        let (kind, low) = split(word);
+        let link = Triple {
+            from: low / 256 % 256,
+            to: low % 256,
+            label: low / 65_536,
+        };
+        match kind {
+            ADVANCE => Ok(Record::Advance { clock: low }),
+            ADD if link.label <= LAST_LABEL => Ok(Record::Add(link)),
+            DROP if link.label <= LAST_LABEL => Ok(Record::Drop(link)),
+            _ => Err(NotARecord(word)),
+        }
     }
 }

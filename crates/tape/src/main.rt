@@ -32,7 +32,7 @@ fn run(rt: &HostRuntime) -> anyhow::Result<()> {
 fn open<'a>(
     bytes: &[u8],
     memory: &'a mut [u32; MOST_WORDS],
-) -> Result<(Tape<'a>, Begun<'a>), RunFault> {
+) -> Result<(Tape<'a>, Begun), RunFault> {
     let whole = load::load(bytes, memory)?;
     let tape = Tape {
         words: &memory[..whole],
@@ -47,11 +47,11 @@ fn follow(rt: &HostRuntime, tape: &Tape, begun: &Begun) -> anyhow::Result<()> {
     print(
         rt,
         Line::Start {
-            n: begun.start.n,
+            n: begun.opening.n,
             size: begun.machine.size(),
         },
     )?;
-    let last = match tape.next(begun.place()) {
+    let last = match tape.next(begun.place) {
         Ok(Some(_)) => bail!("the records of a tape are not run yet"),
         Ok(None) => Line::End {
             records: 0,

@@ -8,7 +8,7 @@ ghost use Rattle.std.specs.Prelude.{◌≡◌, ◌/◌, length, IfOk, vec_len};
 mod command;
 mod product;
 
-use anyhow::{Context, bail};
+use anyhow::Context;
 use command::Command;
 use expression::fault::Fault;
 use expression::machine::Machine;
@@ -82,7 +82,7 @@ fn tell(answers: &mut String, verdict: Result<Verdict, Refusal>) -> anyhow::Resu
     match verdict {
         Ok(verdict) => Ok(writeln!(answers, "{verdict}")?),
         Err(Refusal::Expression(fault)) => tell_fault(answers, fault),
-        Err(Refusal::Cut) => bail!("the expressions of a command are cut"),
+        Err(cut) => Err(cut.into()),
     }
 }
 

@@ -5,20 +5,17 @@ use expression::machine::Machine;
 use query::both::Both;
 use query::{Query, accept};
 use std::{array, fmt};
+use thiserror::Error;
 
 /// Why a word is not tried.
-#[derive(Clone, Copy, Debug, PartialEq, Eq)]
+#[derive(Clone, Copy, Debug, PartialEq, Eq, Error)]
 pub enum Refusal {
     /// The payload ends inside an expression, or before one.
+    #[error("the expressions of a command are cut")]
     Cut,
     /// An expression is refused, the first that is.
-    Expression(Fault),
-}
-
-impl From<Fault> for Refusal {
-    fn from(fault: Fault) -> Self {
-        Refusal::Expression(fault)
-    }
+    #[error("an expression is refused")]
+    Expression(#[from] Fault),
 }
 
 /// What a product says of its size and of a word.
@@ -61,18 +58,26 @@ pub(crate) fn of_two(words: &[u32]) -> Result<Verdict, Refusal> {
 
 /// Tries a word on the product of the first two machines' product and the third.
 pub(crate) fn of_two_and_one(words: &[u32]) -> Result<Verdict, Refusal> {
-    let mut payload = Payload { rest: words };
-    let [a, b, c]: [_; 3] = array::try_from_fn(|_| payload.expression())?;
-    let both = pair(pair(machine_of(a)?, machine_of(b)?), machine_of(c)?);
-    Ok(try_word(&both, payload.rest))
+    of_three(words, |a, b, c| pair(pair(a, b), c))
 }
 
 /// Tries a word on the product of the first machine and the other two's product.
 pub(crate) fn of_one_and_two(words: &[u32]) -> Result<Verdict, Refusal> {
+    of_three(words, |a, b, c| pair(a, pair(b, c)))
+}
+
+// Tries a word on a product of three machines. It is no one function with `of_two`: the borrow checker does not cover an array of slices
+// whose length is a parameter.
+fn of_three<Q: Query + Drop, F: FnOnce(Machine, Machine, Machine) -> Q>(
+    words: &[u32],
+    product: F,
+) -> Result<Verdict, Refusal>
+    requires { F.IsAlwaysCallable product }
+{
     let mut payload = Payload { rest: words };
     let [a, b, c]: [_; 3] = array::try_from_fn(|_| payload.expression())?;
-    let both = pair(machine_of(a)?, pair(machine_of(b)?, machine_of(c)?));
-    Ok(try_word(&both, payload.rest))
+    let all = product(machine_of(a)?, machine_of(b)?, machine_of(c)?);
+    Ok(try_word(&all, payload.rest))
 }
 
 fn pair<A: Query, B: Query>(first: A, second: B) -> Both<A, B> {

@@ -17,7 +17,10 @@ impl Machine {
         ensures { Empty result }
     {
         let mut positions = ArrayVec::new();
-        positions.push(Position::default());
+        positions.push(Position {
+            label: 0,
+            next: States::none(),
+        });
         Machine {
             accepting: States::none(),
             positions,
@@ -56,7 +59,8 @@ impl Machine {
         link_all(self.positions.as_mut_slice(), from, to);
     }
 
-    // The part again and again, one or more times.
+    // The part again and again, one or more times. That its letters are the machine's is a fact about the two together, which neither type's
+    // own law can say; so each call that needs it asks it.
     pub(crate) fn plus(&mut self, part: Part) -> Part
         requires { Within 0 (letters_in self.old) part }
         ensures value { result ≡ part }
@@ -95,7 +99,7 @@ fn link_all(positions: &mut [Position], from: States, to: States)
 {
     for (state, position) in positions.iter_mut().enumerate() {
         if from.contains(state as u32) {
-            position.next = position.next | to;
+            position.next |= to;
         }
     }
 }

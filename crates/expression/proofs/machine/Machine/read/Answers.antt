@@ -1,17 +1,12 @@
-use Rattle.std.proofs.Common.{sym, refl, ◌∙◌, inl, inr, ⊎_elim, arith}
+use Rattle.std.proofs.Common.{refl, arith}
 use Rattle.std.proofs.lemmas.Result.{err_from_is_err_and}
-use Rattle.std.proofs.lemmas.Bool.{eqb-true, eqb-false}
 use Rattle.expression.proofs.Whole.{refused, refused_count}
 use Rattle.expression.proofs.machine.Machine.read.Goals as goal
 
 pub returns-then-is_empty : goal.returns-then-is_empty
-returns-then-is_empty c = (
-  refused_count c.args.words.now (⊎_elim (λ e. inl (eqb-true _ 0 (sym c.is_empty.ensures ∙ e))) (λ x. inr x.1) c.then-is_empty.either),
-  refl,
-)
+returns-then-is_empty c = (refused_count c.args.words.now (grind arith), refl)
 
 pub returns-in_err-self : goal.returns-in_err-self
 returns-in_err-self c =
     let p = err_from_is_err_and c.from_residual.result c.from_residual.ensures.1 in
-    let some = eqb-false _ 0 (sym c.is_empty.ensures ∙ c.if-is_empty.false) in
-    rw (p.1, p.2) (refused c.args.words.now c.in_err-self.field-0.0 (omega arith) c.if-words-gt-MOST_WORDS.false c.in_err-self.ensures, refl)
+    rw (p.1, p.2) (refused c.args.words.now c.in_err-self.field-0.0 (grind arith) c.if-words-gt-MOST_WORDS.false c.in_err-self.ensures, refl)

@@ -1,6 +1,6 @@
 use Rattle.std.proofs.Common.{◌≡◌, ℕ, ◌<◌, true, false}
 use Rattle.masks.specs.Members.{member}
-use Rattle.masks.proofs.States.from_fn.Given as goal
+use Rattle.query.proofs.accept.all_where.Given as goal
 
 abbrev pub invariant-loop-state : goal.invariant-loop-state
 invariant-loop-state g l =
