@@ -3,7 +3,7 @@
 use std::ops::RangeInclusive;
 
 use crate::expression::{
-    BAR, Base, CLOSE, Expression, MARKS, MAYBE, OPEN, PLUS, Piece, STAR, Sequence, label_of, letter,
+    label_of, letter, Base, Expression, Piece, Sequence, BAR, CLOSE, MARKS, MAYBE, OPEN, PLUS, STAR,
 };
 use crate::reading::{MOST_LETTERS, MOST_OPEN, MOST_WORDS};
 use crate::rng::Rng;
@@ -194,7 +194,7 @@ pub fn soup(rng: &mut Rng, most: usize) -> Vec<u32> {
         words.push(letter(0));
     }
     if rng.chance(80) {
-        words.extend(std::iter::repeat_n(CLOSE, open));
+        words.extend(std::iter::repeat(CLOSE).take(open));
     }
     words
 }

@@ -5,7 +5,7 @@
 
 use std::collections::BTreeSet;
 
-use crate::expression::{Base, Expression, MARKS, MAYBE, Piece, STAR, Sequence};
+use crate::expression::{Base, Expression, Piece, Sequence, MARKS, MAYBE, STAR};
 use crate::rng::Rng;
 
 /// An expression with so many letters that has the word, and mostly has others.
@@ -88,10 +88,9 @@ fn widen(rng: &mut Rng, expression: &mut Expression, labels: &[u8]) {
     let pieces = &mut expression.sequences[place].pieces;
     let index = rng.below(pieces.len());
     let piece = &mut pieces[index];
-    if let Base::Group(inner) = &mut piece.base
-        && rng.chance(50)
-    {
-        return widen(rng, inner, labels);
+    match &mut piece.base {
+        Base::Group(inner) if rng.chance(50) => return widen(rng, inner, labels),
+        _ => {}
     }
     match rng.below(5) {
         0 => {}

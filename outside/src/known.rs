@@ -2,7 +2,7 @@
 
 use crate::expression::parse;
 use crate::language::Language;
-use crate::reading::{Fault, read};
+use crate::reading::{read, Fault};
 
 /// An expression without a fault.
 #[derive(Debug)]
@@ -34,7 +34,7 @@ impl Known {
 #[cfg(test)]
 mod tests {
     use super::*;
-    use crate::expression::{BAR, STAR, letter};
+    use crate::expression::{letter, BAR, STAR};
 
     #[test]
     fn sound_words_are_known_and_faulty_ones_are_not() {

@@ -5,7 +5,7 @@
 //! way of splitting the stretch. That is slow, plain, and shares no idea with
 //! the programs that are tested.
 
-use crate::expression::{Base, Expression, PLUS, Piece, STAR};
+use crate::expression::{Base, Expression, Piece, PLUS, STAR};
 use crate::rng::Rng;
 
 /// A part of an expression; the numbers are places in [`Language::parts`].

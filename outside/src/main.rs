@@ -25,8 +25,8 @@ use std::env;
 use std::path::{Path, PathBuf};
 use std::process::ExitCode;
 
-use report::{Expected, Failure, compare, grouped, join_words};
-use session::{Group, Tally, check_sessions};
+use report::{compare, grouped, join_words, Expected, Failure};
+use session::{check_sessions, Group, Tally};
 
 const DEFAULT_SEED: u64 = 20_240_229;
 
@@ -52,9 +52,12 @@ impl Options {
 }
 
 fn main() -> ExitCode {
-    let Some(options) = Options::from_arguments(env::args().skip(1)) else {
-        eprintln!("usage: outside TAPE WORDS [SEED]");
-        return ExitCode::from(2);
+    let options = match Options::from_arguments(env::args().skip(1)) {
+        Some(options) => options,
+        None => {
+            eprintln!("usage: outside TAPE WORDS [SEED]");
+            return ExitCode::from(2);
+        }
     };
     match compare_all(&options) {
         Ok(Compared {

@@ -102,7 +102,7 @@ pub fn size_of_product(sizes: impl IntoIterator<Item = usize>) -> usize {
 #[cfg(test)]
 mod tests {
     use super::*;
-    use crate::expression::{BAR, STAR, letter};
+    use crate::expression::{letter, BAR, STAR};
 
     #[test]
     fn sizes_multiply_until_there_are_too_many() {

@@ -1,10 +1,10 @@
 //! The groups of cases for the products of the program WORDS.
 
-use crate::expression::{Expression, letter};
+use crate::expression::{letter, Expression};
 use crate::generate;
 use crate::kin::{around, wider};
 use crate::known::Known;
-use crate::product::{MOST_STATES, Nesting, payload};
+use crate::product::{payload, Nesting, MOST_STATES};
 use crate::reading::read;
 use crate::rng::Rng;
 use crate::session::{Group, Session};
@@ -401,9 +401,11 @@ mod tests {
     /// Whether all commands are known and whole.
     fn is_in_order(mut input: &[u32]) -> bool {
         while let [command, count, rest @ ..] = input {
-            let Some((mut words, after)) = rest.split_at_checked(*count as usize) else {
+            let count = *count as usize;
+            if rest.len() < count {
                 return false;
-            };
+            }
+            let (mut words, after) = rest.split_at(count);
             let expressions = match command {
                 1 | 2 => 0,
                 3 => 2,
@@ -414,10 +416,10 @@ mod tests {
                 let whole = words
                     .split_first()
                     .and_then(|(count, rest)| rest.get(*count as usize..));
-                let Some(rest) = whole else {
-                    return false;
-                };
-                words = rest;
+                match whole {
+                    Some(rest) => words = rest,
+                    None => return false,
+                }
             }
             input = after;
         }

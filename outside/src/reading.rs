@@ -1,6 +1,6 @@
 //! What reading an expression answers: its size, or the first fault.
 
-use crate::expression::{BAR, CLOSE, MAYBE, OPEN, PLUS, STAR, label_of};
+use crate::expression::{label_of, BAR, CLOSE, MAYBE, OPEN, PLUS, STAR};
 
 /// The most words that an expression may have.
 pub const MOST_WORDS: usize = 256;

@@ -152,8 +152,12 @@ fn write_lines(out: &mut fmt::Formatter<'_>, lines: &[&[u8]], same: usize) -> fm
 
 /// The whole words of the bytes, low byte first, and the bytes after them.
 pub fn split_words(bytes: &[u8]) -> (Vec<u32>, &[u8]) {
-    let (whole, cut) = bytes.as_chunks::<4>();
-    (whole.iter().copied().map(u32::from_le_bytes).collect(), cut)
+    let whole = bytes.chunks_exact(4);
+    let cut = whole.remainder();
+    let words = whole
+        .map(|word| u32::from_le_bytes([word[0], word[1], word[2], word[3]]))
+        .collect();
+    (words, cut)
 }
 
 /// The words on the wire.
@@ -166,7 +170,7 @@ pub fn grouped(number: usize) -> String {
     let digits = number.to_string();
     let mut text = String::new();
     for (index, digit) in digits.chars().enumerate() {
-        if index > 0 && (digits.len() - index).is_multiple_of(3) {
+        if index > 0 && (digits.len() - index) % 3 == 0 {
             text.push(',');
         }
         text.push(digit);
@@ -205,8 +209,9 @@ mod tests {
     fn a_mismatch_tells_input_expected_and_actual() {
         let program = Path::new("cat");
         let expected = Expected::text("no\n".into());
-        let Err(Failure::Mismatch(mismatch)) = compare(program, b"\x01\0\0\x80y", &expected) else {
-            panic!("cat does not say no");
+        let mismatch = match compare(program, b"\x01\0\0\x80y", &expected) {
+            Err(Failure::Mismatch(mismatch)) => mismatch,
+            _ => panic!("cat does not say no"),
         };
         let text = mismatch.to_string();
         for part in [

@@ -4,9 +4,9 @@ use std::ops::AddAssign;
 use std::path::Path;
 
 use crate::known::Known;
-use crate::product::{Nesting, Verdict, payload};
+use crate::product::{payload, Nesting, Verdict};
 use crate::reading::Fault;
-use crate::report::{Expected, Failure, compare, join_words};
+use crate::report::{compare, join_words, Expected, Failure};
 use crate::rng::Rng;
 use crate::runner;
 
@@ -98,8 +98,9 @@ impl Session {
         };
         self.exchange(1, words, answer);
         self.tally.readings += 1;
-        let Ok(known) = known else {
-            return false;
+        let known = match known {
+            Ok(known) => known,
+            Err(_) => return false,
         };
         self.tally.sound += 1;
         let basis = self.exchanges.len() - 1;
@@ -109,7 +110,7 @@ impl Session {
 
     /// Adds a word to be tried.
     pub fn attempt(&mut self, labels: &[u32]) {
-        let accepted = self.held().is_some_and(|held| held.language.has(labels));
+        let accepted = self.held().map_or(false, |held| held.language.has(labels));
         let answer = if accepted { "yes\n" } else { "no\n" };
         self.exchange(2, labels, answer.to_string());
         self.tally.words += 1;
@@ -250,7 +251,7 @@ pub fn check_sessions(
 #[cfg(test)]
 mod tests {
     use super::*;
-    use crate::expression::{BAR, STAR, letter};
+    use crate::expression::{letter, BAR, STAR};
 
     fn answers(session: &Session) -> String {
         session
@@ -336,8 +337,9 @@ mod tests {
         let mut session = Session::default();
         session.read(&[letter(0)]);
         session.attempt(&[]);
-        let Err(Failure::Mismatch(mismatch)) = session.check(Path::new("cat")) else {
-            panic!("cat reads no expressions");
+        let mismatch = match session.check(Path::new("cat")) {
+            Err(Failure::Mismatch(mismatch)) => mismatch,
+            _ => panic!("cat reads no expressions"),
         };
         assert_eq!(mismatch.input, join_words(&[1, 1, letter(0)]));
         assert_eq!(mismatch.expected.stdout, "read 2\n");

@@ -1,7 +1,7 @@
 //! What the program TAPE must do on a tape.
 
 use crate::reading::read;
-use crate::report::{Expected, split_words};
+use crate::report::{split_words, Expected};
 
 /// The most bytes that a tape may have.
 pub const MOST_BYTES: usize = 8_192;
@@ -100,9 +100,9 @@ fn start(words: &[u32]) -> Result<Start, Fault> {
     let window = start_word(words, 1, |word| word >> 28 == WINDOW >> 28)? ^ WINDOW;
     let length = 2 + (first >> 8 & 0x1FF) as usize;
     let n = (first & 0xFF) as usize;
-    let Some(expression) = words.get(2..length) else {
-        return Err(Fault::new(Layer::Tape, 30, words.len()));
-    };
+    let expression = words
+        .get(2..length)
+        .ok_or_else(|| Fault::new(Layer::Tape, 30, words.len()))?;
     let size = read(expression)
         .map_err(|fault| Fault::new(Layer::Expression, fault.number, fault.place + 2))?;
     let watch_fault = |number| Err(Fault::new(Layer::Watch, number, 0));
@@ -147,7 +147,7 @@ fn is_record(word: u32) -> bool {
 #[cfg(test)]
 mod tests {
     use super::*;
-    use crate::expression::{BAR, STAR, letter};
+    use crate::expression::{letter, BAR, STAR};
     use crate::report::join_words;
 
     fn said(words: &[u32]) -> String {

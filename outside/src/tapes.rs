@@ -1,6 +1,6 @@
 //! The groups of cases for the program TAPE.
 
-use crate::expression::{BAR, CLOSE, MARKS, OPEN, STAR, letter};
+use crate::expression::{letter, BAR, CLOSE, MARKS, OPEN, STAR};
 use crate::generate;
 use crate::reading::MOST_LETTERS;
 use crate::report::join_words;
@@ -133,7 +133,11 @@ fn any_n(rng: &mut Rng) -> u32 {
 }
 
 fn any_window(rng: &mut Rng) -> u32 {
-    if rng.chance(80) { sound_window(rng) } else { 0 }
+    if rng.chance(80) {
+        sound_window(rng)
+    } else {
+        0
+    }
 }
 
 fn any_bytes(rng: &mut Rng, count: usize) -> Vec<u8> {

@@ -1,6 +1,6 @@
 //! The groups of cases for the program WORDS.
 
-use crate::expression::{CLOSE, OPEN, STAR, letter};
+use crate::expression::{letter, CLOSE, OPEN, STAR};
 use crate::generate;
 use crate::known::Known;
 use crate::rng::Rng;
@@ -166,8 +166,9 @@ fn long_words(rng: &mut Rng, session: &mut Session) {
     for _ in 0..12 {
         let inner = generate::sound(rng, 1..=4).words();
         session.read(&[&[OPEN], &inner[..], &[CLOSE, STAR]].concat());
-        let Some(held) = session.held() else {
-            continue;
+        let held = match session.held() {
+            Some(held) => held,
+            None => continue,
         };
         let mut words = Vec::new();
         for _ in 0..4 {
