@@ -20,7 +20,7 @@ const MOST_OPEN: u32 = 16;
 
 /// A place in the words, how many opens are not closed there, and the machine of the letters so far. The place is kept, and not the slice
 /// of the words that are left, since a fault tells it.
-#[derive(Drop)]
+#[derive(Debug, PartialEq, Eq, Drop)]
 pub struct Reader<'a> {
     words: &'a [u32],
     place: usize,

@@ -1,6 +1,8 @@
 // What one expression word stands for.
 ghost use Rattle.expression.specs.Symbols.{Decodes};
 
+use thiserror::Error;
+
 /// A symbol of an expression. A letter has its label, 0 to 15.
 #[derive(Clone, Copy, Debug, PartialEq, Eq)]
 pub enum Symbol {
@@ -30,7 +32,8 @@ const PLUS: u32 = 0x6000_0000;
 const MAYBE: u32 = 0x7000_0000;
 
 /// A word that is not an expression word.
-#[derive(Clone, Copy, Debug, PartialEq, Eq)]
+#[derive(Clone, Copy, Debug, PartialEq, Eq, Error)]
+#[error("{0:#010x} is not an expression word")]
 pub struct NotAWord(pub u32);
 
 /// The symbol that the word stands for.

@@ -32,6 +32,7 @@ fn all_where<F: Fn(u32) -> bool>(test: F) -> States
     ensures outside { (j : ℕ) → member result j ≡ false → j < most_states → F.post test j false }
 {
     let mut states = States::none();
+    // A loop: tried as a filter and a fold, where both clauses stayed open.
     for state in 0..MOST_STATES {
         if test(state) {
             states = states.with(state);
@@ -46,7 +47,8 @@ fn any<F: Fn(u32) -> bool>(states: States, test: F) -> bool
     ensures yes { result ≡ true → (j : ℕ) × (member states j ≡ true) × F.post test j true }
     ensures no { result ≡ false → (j : ℕ) → member states j ≡ true → F.post test j false }
 {
-    // A loop, and not the iterator's `any`: that no state from 32 on is in the set is told by `contains`, and is lost inside a closure.
+    // A loop: tried as the iterator's `any`, where a clause stayed open. That no state from 32 on is in the set is told by `contains`, and is
+    // lost inside a closure.
     for state in 0..MOST_STATES {
         if states.contains(state) && test(state) {
             return true;

@@ -21,7 +21,7 @@ pub fn load(bytes: &[u8], memory: &mut [u32; MOST_WORDS]) -> Result<usize, TapeF
     }
     // The count is answered and no slice: memory that is still lent has no value after the call, so no clause could say what of it stays.
     let (whole, _) = bytes.as_chunks::<4>();
-    // By index, since no contract says what is written through an `iter_mut` that is zipped.
+    // By index: tried with an `iter_mut` that is zipped, and the proof stayed open, since no contract says what is written through that.
     for (index, four) in whole.iter().enumerate() {
         memory[index] = u32::from_le_bytes(*four);
     }

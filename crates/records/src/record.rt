@@ -6,6 +6,7 @@ ghost use Rattle.records.specs.Records.{start_shape, record_shape, Decodes, seen
 
 use crate::fault::TapeFault;
 use query::LAST_LABEL;
+use thiserror::Error;
 use watch::opening::Opening;
 use watch::triple::Triple;
 
@@ -117,7 +118,8 @@ fn split(word: u32) -> (u32, u32)
 }
 
 /// A word that stands for no record after the start.
-#[derive(Clone, Copy, Debug, PartialEq, Eq)]
+#[derive(Clone, Copy, Debug, PartialEq, Eq, Error)]
+#[error("no record after the start has the word {0:#010x}")]
 pub struct NotARecord(pub u32);
 
 /// The record after the start that one word stands for.

@@ -66,8 +66,8 @@ pub(crate) fn of_one_and_two(words: &[u32]) -> Result<Verdict, Refusal> {
     of_three(words, |a, b, c| pair(a, pair(b, c)))
 }
 
-// Tries a word on a product of three machines. It is no one function with `of_two`: the borrow checker does not cover an array of slices
-// whose length is a parameter.
+// Tries a word on a product of three machines. It is no one function with `of_two`: tried, and the borrow checker does not cover an array
+// of slices whose length is a parameter.
 fn of_three<Q: Query + Drop, F: FnOnce(Machine, Machine, Machine) -> Q>(
     words: &[u32],
     product: F,
