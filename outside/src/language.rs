@@ -278,8 +278,8 @@ mod tests {
         let a = crate::expression::letter(0);
         let words: Vec<u32> = [a]
             .into_iter()
-            .chain(std::iter::repeat_n(crate::expression::MAYBE, 100))
-            .chain(std::iter::repeat_n(PLUS, 100))
+            .chain(std::iter::repeat(crate::expression::MAYBE).take(100))
+            .chain(std::iter::repeat(PLUS).take(100))
             .collect();
         let language = Language::of(&parse(&words).expect("sound"));
         let mut rng = Rng::new(5);

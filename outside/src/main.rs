@@ -5,6 +5,9 @@
 //! A run repeats exactly with the same seed. The exit status is 0 if all
 //! agrees, 1 on a mismatch, and 2 if there was nothing to compare.
 
+#![forbid(unsafe_code)]
+#![warn(missing_docs, clippy::all)]
+
 mod expression;
 mod generate;
 mod kin;

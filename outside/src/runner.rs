@@ -43,10 +43,10 @@ fn run_command(mut command: Command, input: &[u8], patience: Duration) -> io::Re
         .stdout(Stdio::piped())
         .stderr(Stdio::piped())
         .spawn()?;
-    let (Some(stdin), Some(stdout), Some(stderr)) =
-        (child.stdin.take(), child.stdout.take(), child.stderr.take())
-    else {
-        unreachable!("all three streams were asked for");
+    let streams = (child.stdin.take(), child.stdout.take(), child.stderr.take());
+    let (stdin, stdout, stderr) = match streams {
+        (Some(stdin), Some(stdout), Some(stderr)) => (stdin, stdout, stderr),
+        _ => unreachable!("all three streams were asked for"),
     };
     let deadline = Instant::now() + patience;
     thread::scope(|scope| {

@@ -172,8 +172,9 @@ impl Session {
     /// The failure on a shorter input, if one can easily be found: thousands of
     /// commands would not tell anybody anything.
     fn narrowed(&self, program: &Path, failure: Failure) -> Failure {
-        let Failure::Mismatch(mismatch) = &failure else {
-            return failure;
+        let mismatch = match &failure {
+            Failure::Mismatch(mismatch) => mismatch,
+            _ => return failure,
         };
         // To wait for a slow program again and again is not worth it.
         if !mismatch.actual.in_time || self.exchanges.is_empty() {
