@@ -18,11 +18,11 @@ use Rattle.expression.specs.Rows.{labels_in, rows_in}
 use Rattle.expression.specs.Built.{Links}
 use Rattle.expression.specs.Machines.{linked, label_of, letters_in}
 use Rattle.expression.specs.Parts.{Within, Either, Then, optional}
-use Rattle.expression.specs.Readers.{Went, Kept, Spells, Exact, ReadPart, RepeatedPart, Read, Repeated, Peeked, begins_piece, after_piece}
+use Rattle.expression.specs.Readers.{Advanced, Kept, Spells, Exact, ReadPart, RepeatedPart, Read, Repeated, Peeked, begins_piece, after_piece}
 use Rattle.expression.specs.Symbols.{symbol_of}
 use Rattle.expression.proofs.Fragments.{fragment_kept, fragment_letter, fragment_either, fragment_then, fragment_plus, fragment_star, fragment_maybe}
 use Rattle.expression.proofs.Positions.{exact_either, exact_then}
-use Rattle.expression.proofs.Progress.{went_letter}
+use Rattle.expression.proofs.Progress.{advanced_letter}
 
 -- The reader after one word, as deep as before, and with another machine.
 abbrev pub stepped : Reader → Reader
@@ -55,7 +55,7 @@ relabel m m' {G} {lo} {p} {P} letters labels f = subst (λ n. Fragment G (label_
 -- A letter.
 pub read_letter : (r : Reader) (m : Machine) (l own k : ℕ) → Peeked r (Ok (Some (Letter l))) → letters_in r.machine < 31 → k ≡ letters_in r.machine + 1 → labels_in m.positions.items ≡ labels_in r.machine.positions.items ++ l ∷ [] → rows_in m.positions.items ≡ rows_in r.machine.positions.items ++ 0 ∷ [] → ((j : ℕ) → member own j ≡ with_member 0 k j) → ReadPart Atom r (record { words = r.words; place = r.place + 1; depth = r.depth; machine = m }) (record { nullable = false; first = own; last = own })
 read_letter r m l own k peek room next labels rows is = record {
-  went = went_letter r _ l k peek room next refl refl refl letters labels;
+  advanced = advanced_letter r _ l k peek room next refl refl refl letters labels;
   depth = refl;
   further = omega arith;
   kept = record {
@@ -84,7 +84,7 @@ read_letter r m l own k peek room next labels rows is = record {
 -- A group.
 pub read_group : (r r1 : Reader) (p : Part) → Peeked r (Ok (Some Open)) → r.depth < 16 → ReadPart Expression (opened r) r1 p → Peeked r1 (Ok (Some Close)) → ReadPart Atom r (closed r1) p
 read_group r r1 p open_word room inner close_word = record {
-  went = grind (arith, nat_tests);
+  advanced = grind (arith, nat_tests);
   depth = omega (arith, inner.depth);
   further = omega (arith, inner.further);
   kept = inner.kept;
@@ -96,24 +96,24 @@ read_group r r1 p open_word room inner close_word = record {
 
 -- A letter or a group, with its repeats.
 pub read_piece : {r r1 : Reader} {p : Part} (r2 : Reader) (res : Result Part Fault) → ReadPart Atom r r1 p → Repeated p r1 r2 res → Read Piece r r2 res
-read_piece r2 (Err f) atom rest = atom.went.faults ∙ rest
+read_piece r2 (Err f) atom rest = atom.advanced.faults ∙ rest
 read_piece {r = r} r2 (Ok q) atom rest =
-    let grown = rest.grown atom.tree in
+    let repeated = rest.tree atom.tree in
     record {
-      went = grind arith;
+      advanced = grind arith;
       depth = rest.depth ∙ atom.depth;
-      further = omega (arith, atom.further, rest.went.place);
+      further = omega (arith, atom.further, rest.advanced.place);
       kept = kept_on (omega arith) atom.kept (rest.kept (letters_in r.machine) atom.fragment.own);
-      tree = grown.tree;
-      derived = piece atom.derived grown.derived;
-      fragment = grown.fragment (letters_in r.machine) atom.fragment;
-      exact = grown.exact (letters_in r.machine) atom.exact;
+      tree = repeated.tree;
+      derived = piece atom.derived repeated.derived;
+      fragment = repeated.fragment (letters_in r.machine) atom.fragment;
+      exact = repeated.exact (letters_in r.machine) atom.exact;
     }
 
 -- What is of one level is of the next.
 pub read_as : {L M : List ℕ → List ℕ → Tree → Type 0} {r r' : Reader} {p : Part} → ((ws rest : List ℕ) (t : Tree) → L ws rest t → M ws rest t) → ReadPart L r r' p → ReadPart M r r' p
 read_as up read = record {
-  went = read.went;
+  advanced = read.advanced;
   depth = read.depth;
   further = read.further;
   kept = read.kept;
@@ -126,38 +126,38 @@ read_as up read = record {
 -- A piece and then a sequence.
 pub read_sequence : {r r1 r2 : Reader} {m : Machine} {p q x : Part} → ReadPart Piece r r1 p → (next : Option Symbol) → Peeked r1 (Ok next) → begins_piece next ≡ true → ReadPart Sequence r1 r2 q → Links r2.machine m p.last q.first → Then p q x → ReadPart Sequence r (relinked r2 m) x
 read_sequence {r2 = r2} {m} {x = x} front next peek begins back links joined = record {
-  went = grind arith;
+  advanced = grind arith;
   depth = back.depth ∙ front.depth;
   further = omega (arith, front.further, back.further);
-  kept = grind (arith, kept_on front.went.letters front.kept back.kept, kept_link links (λ s e. (front.fragment.own.last s e).0));
+  kept = grind (arith, kept_on front.advanced.letters front.kept back.kept, kept_link links (λ s e. (front.fragment.own.last s e).0));
   tree = then front.tree back.tree;
   derived = piece_next front.derived back.derived;
   fragment =
       relabel r2.machine m links.letters links.labels
-      (fragment_then front.went.letters back.went.letters (spells_kept back.kept front.fragment) back.fragment (record { moves = links.follow }) joined);
+      (fragment_then front.advanced.letters back.advanced.letters (spells_kept back.kept front.fragment) back.fragment (record { moves = links.follow }) joined);
   exact = exact_then _ _ _ _ _ _ _ front.exact back.exact back.kept.moves m x links.letters links.follow joined;
 }
 
 -- A sequence, a bar and an expression.
 pub read_expression : {r r1 r2 : Reader} {p q x : Part} → ReadPart Sequence r r1 p → Peeked r1 (Ok (Some Bar)) → ReadPart Expression (stepped r1) r2 q → Either p q x → ReadPart Expression r r2 x
 read_expression {x = x} left_part bar_word right_part joined = record {
-  went = grind arith;
+  advanced = grind arith;
   depth = right_part.depth ∙ left_part.depth;
   further = omega (arith, left_part.further, right_part.further);
-  kept = kept_on left_part.went.letters left_part.kept right_part.kept;
+  kept = kept_on left_part.advanced.letters left_part.kept right_part.kept;
   tree = either left_part.tree right_part.tree;
   derived = bar_next (rw bar_word.1 at left_part.derived) bar_word.2 right_part.derived;
-  fragment = fragment_either left_part.went.letters right_part.went.letters (spells_kept right_part.kept left_part.fragment) right_part.fragment joined;
+  fragment = fragment_either left_part.advanced.letters right_part.advanced.letters (spells_kept right_part.kept left_part.fragment) right_part.fragment joined;
   exact = exact_either _ _ _ _ _ _ _ left_part.exact right_part.exact right_part.kept.moves x joined;
 }
 
 -- No repeat more.
 pub repeated_none : (r : Reader) (p : Part) → RepeatedPart p r r p
 repeated_none r p = record {
-  went = grind arith;
+  advanced = grind arith;
   depth = refl;
   kept = λ lo w. grind arith;
-  grown = λ s. record { tree = s; derived = done; fragment = λ lo f. f; exact = λ lo x. x };
+  tree = λ s. record { tree = s; derived = done; fragment = λ lo f. f; exact = λ lo x. x };
 }
 
 -- What one repeat does to a part: in the machine m it is p', of tree T s where it was of tree s.
@@ -167,26 +167,26 @@ pub record Repeat (r : Reader) (m : Machine) (y : Symbol) (T : Tree → Tree) (p
   pub letters : letters_in m ≡ letters_in r.machine
   pub labels : (labels_in m.positions.items) ≡ (labels_in r.machine.positions.items)
   pub kept : (lo : ℕ) → Within lo (letters_in r.machine) p → Kept lo r.machine m × Within lo (letters_in r.machine) p'
-  pub grow : (s : Tree) (lo : ℕ) → Spells r.machine lo p s → Fragment (linked m) (label_of r.machine) lo (letters_in r.machine) p' (Language (T s))
+  pub fragment : (s : Tree) (lo : ℕ) → Spells r.machine lo p s → Fragment (linked m) (label_of r.machine) lo (letters_in r.machine) p' (Language (T s))
   pub exact : (s : Tree) (lo : ℕ) → Exact r.machine lo p s → Exact m lo p' (T s)
   pub derive : {w : ℕ} {ws rest : List ℕ} {s t : Tree} → symbol_of w ≡ Some y → Repeats ws rest (T s) t → Repeats (w ∷ ws) rest s t
 
-repeated_start : {r : Reader} {m : Machine} {y : Symbol} {T : Tree → Tree} {p p' : Part} → Repeat r m y T p p' → Went false r false (stepped (relinked r m))
+repeated_start : {r : Reader} {m : Machine} {y : Symbol} {T : Tree → Tree} {p p' : Part} → Repeat r m y T p p' → Advanced false r false (stepped (relinked r m))
 repeated_start one = grind arith
 
 -- One repeat, and then others.
 pub repeated_next : {r : Reader} {m : Machine} {y : Symbol} {T : Tree → Tree} {p p' : Part} (r2 : Reader) (res : Result Part Fault) → Repeat r m y T p p' → Repeated p' (stepped (relinked r m)) r2 res → Repeated p r r2 res
 repeated_next r2 (Err f) one rest = (repeated_start one).faults ∙ rest
 repeated_next {r = r} {m} {T = T} r2 (Ok q) one rest = record {
-  went = grind (arith, repeated_start one);
+  advanced = grind (arith, repeated_start one);
   depth = rest.depth;
   kept = λ lo w. kept_on (omega arith) (one.kept lo w).0 (rest.kept lo (rw one.letters (one.kept lo w).1));
-  grown = λ s.
-      let g = rest.grown (T s) in
+  tree = λ s.
+      let g = rest.tree (T s) in
       record {
         tree = g.tree;
         derived = rw one.next.1 (one.derive one.next.2 g.derived);
-        fragment = λ lo f. g.fragment lo (relabel r.machine m one.letters one.labels (one.grow s lo f));
+        fragment = λ lo f. g.fragment lo (relabel r.machine m one.letters one.labels (one.fragment s lo f));
         exact = λ lo x. g.exact lo (one.exact s lo x);
       };
 }
@@ -199,7 +199,7 @@ repeat_star r p next links = record {
   letters = links.letters;
   labels = links.labels;
   kept = λ lo w. grind (arith, kept_link);
-  grow = λ s lo f. fragment_star f (record { moves = links.follow });
+  fragment = λ s lo f. fragment_star f (record { moves = links.follow });
   exact = λ s lo x. grind arith;
   derive = star_next;
 }
@@ -211,7 +211,7 @@ repeat_plus r p next links = record {
   letters = links.letters;
   labels = links.labels;
   kept = λ lo w. grind (arith, kept_link);
-  grow = λ s lo f. fragment_plus f (record { moves = links.follow });
+  fragment = λ s lo f. fragment_plus f (record { moves = links.follow });
   exact = λ s lo x. grind arith;
   derive = plus_next;
 }
@@ -223,7 +223,7 @@ repeat_maybe r p next = record {
   letters = refl;
   labels = refl;
   kept = λ lo w. grind arith;
-  grow = λ s lo f. fragment_maybe f;
+  fragment = λ s lo f. fragment_maybe f;
   exact = λ s lo x. grind arith;
   derive = maybe_next;
 }

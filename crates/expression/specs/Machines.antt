@@ -1,8 +1,8 @@
 -- What a machine means as a query.
-use Rattle.std.specs.Prelude.{◌≡◌, ℕ, ◌-◌, ◌<◌, Bool, true, false, ◌&&◌, ◌==◌, length, slice_index}
+use Rattle.std.specs.Prelude.{◌≡◌, ℕ, ◌-◌, ◌<◌, ◌≤◌, Bool, IsTrue, true, false, ◌&&◌, ◌==◌, length, slice_index}
 use Rattle.masks.specs.Members.{member}
 use Rattle.expression.specs.Rows.{labels_in, rows_in}
-use Rattle.query.specs.Meaning.{Meaning, Lawful}
+use Rattle.query.specs.Meaning.{Meaning, Lawful, most_states}
 use Rattle.std.proofs.Common.{ap, ◌∙◌, ⊎_elim, arith}
 use Rattle.std.proofs.lemmas.List.{get_or_past, length-map}
 use Rattle.std.proofs.lemmas.Bool.{and_parts, both_ways, cases_lt, eqb-true}
@@ -45,6 +45,12 @@ machine_lawful m = record {
       let p = and_parts (linked m s t) (label_of m t == l) e in
       (linked_from m s t p.0, omega (arith, m.labelled t, eqb-true _ _ p.1), m.within s t p.0, m.few);
 }
+
+-- What every machine keeps besides: at most 32 states, no move into state 0, and one label on all moves into a state.
+pub record MachineLaw (m : Meaning) : Type 0 where
+  pub size : m.size ≤ most_states
+  pub start : (s l t : ℕ) → IsTrue (m.moves s l t) → 1 ≤ t
+  pub one_label : (s s' l l' t : ℕ) → IsTrue (m.moves s l t) → IsTrue (m.moves s' l' t) → l ≡ l'
 
 -- The machine of one state that accepts nothing and has no moves or labels.
 pub record Empty (m : Machine) : Type 0 where

@@ -35,7 +35,7 @@ labels_at r = labels_in r.machine.positions.items ++ letters_of (left r)
 
 -- A reader has gone on from r to r', in the same words, with the same faults to come and the same letters in all.
 -- The tests say whether a piece must begin there.
-pub record Went (b : Bool) (r : Reader) (b' : Bool) (r' : Reader) : Type 0 where
+pub record Advanced (b : Bool) (r : Reader) (b' : Bool) (r' : Reader) : Type 0 where
   pub words : r'.words.now ≡ r.words.now
   pub place : r.place ≤ r'.place
   pub letters : letters_in r.machine ≤ letters_in r'.machine
@@ -61,7 +61,7 @@ pub record Exact (m : Machine) (lo : ℕ) (p : Part) (t : Tree) : Type 0 where
 
 -- A reader has read a part that begins at r and ends at r', of this level of the grammar.
 pub record ReadPart (Level : List ℕ → List ℕ → Tree → Type 0) (r r' : Reader) (p : Part) : Type 0 where
-  pub went : Went true r false r'
+  pub advanced : Advanced true r false r'
   pub depth : r'.depth ≡ r.depth
   pub further : r.place < r'.place
   pub kept : Kept (letters_in r.machine) r.machine r'.machine
@@ -76,7 +76,7 @@ Read Level r r' (Ok p) = ReadPart Level r r' p
 Read Level r r' (Err f) = ahead r true ≡ Some f
 
 -- The repeats read have made a part of a larger tree from one of tree s.
-pub record Grown (p : Part) (r r' : Reader) (q : Part) (s : Tree) : Type 0 where
+pub record RepeatedTree (p : Part) (r r' : Reader) (q : Part) (s : Tree) : Type 0 where
   pub tree : Tree
   pub derived : Repeats (left r) (left r') s tree
   pub fragment : (lo : ℕ) → Spells r.machine lo p s → Spells r'.machine lo q tree
@@ -84,10 +84,10 @@ pub record Grown (p : Part) (r r' : Reader) (q : Part) (s : Tree) : Type 0 where
 
 -- The reader of repeats has made q of the part p, with no letter more.
 pub record RepeatedPart (p : Part) (r r' : Reader) (q : Part) : Type 0 where
-  pub went : Went false r false r'
+  pub advanced : Advanced false r false r'
   pub depth : r'.depth ≡ r.depth
   pub kept : (lo : ℕ) → Within lo (letters_in r.machine) p → Kept lo r.machine r'.machine
-  pub grown : (s : Tree) → Grown p r r' q s
+  pub tree : (s : Tree) → RepeatedTree p r r' q s
 
 abbrev pub Repeated : Part → Reader → Reader → Result Part Fault → Type 0
 Repeated p r r' (Ok q) = RepeatedPart p r r' q

@@ -1,5 +1,6 @@
 -- Where and why an expression is refused: one pass over its words from the left, which stops at the first fault.
 use Rattle.std.specs.Prelude.{◌≡◌, ℕ, ◌+◌, ◌-◌, ◌<◌, Bool, true, false, if◌then◌else◌, ◌||◌, List, [], ◌∷◌, ◌++◌, length, Some, None, Option, ◌==◌, nat_lt}
+use Rattle.query.specs.Meaning.{most_states}
 use Rattle.expression.specs.declared.fault.Cause.{Cause}
 use Rattle.expression.specs.declared.fault.Cause.TheVariants.{WordCount, NotAWord, NoPiece, TooManyLetters, TooDeep, Unfinished}
 use Rattle.expression.specs.declared.fault.Fault.{Fault}
@@ -11,9 +12,9 @@ use Rattle.expression.specs.Symbols.{symbol_of}
 abbrev pub most_words : ℕ
 most_words = 256
 
--- this many letters,
+-- this many letters, one fewer than a query has states,
 abbrev pub most_letters : ℕ
-most_letters = 31
+most_letters = most_states - 1
 
 -- and this many brackets open at once.
 abbrev pub most_open : ℕ
@@ -69,20 +70,20 @@ abbrev pub reading_fault : List ℕ → Option Fault
 reading_fault ws = unless 0 (if length ws == 0 || nat_lt most_words (length ws) then Some WordCount else None) (verdict 0 start ws)
 
 -- The label of a letter, and nothing of another symbol.
-abbrev pub spoken : Option Symbol → List ℕ
-spoken None = []
-spoken (Some (Letter l)) = l ∷ []
-spoken (Some Open) = []
-spoken (Some Close) = []
-spoken (Some Bar) = []
-spoken (Some Star) = []
-spoken (Some Plus) = []
-spoken (Some Maybe) = []
+abbrev pub labels_of_symbol : Option Symbol → List ℕ
+labels_of_symbol None = []
+labels_of_symbol (Some (Letter l)) = l ∷ []
+labels_of_symbol (Some Open) = []
+labels_of_symbol (Some Close) = []
+labels_of_symbol (Some Bar) = []
+labels_of_symbol (Some Star) = []
+labels_of_symbol (Some Plus) = []
+labels_of_symbol (Some Maybe) = []
 
 -- The labels of the letters among the words, in order.
 abbrev pub letters_of : List ℕ → List ℕ
 letters_of [] = []
-letters_of (w ∷ ws) = spoken (symbol_of w) ++ letters_of ws
+letters_of (w ∷ ws) = labels_of_symbol (symbol_of w) ++ letters_of ws
 
 -- How many brackets are open after a symbol, where d were before it.
 abbrev pub deeper : Option Symbol → ℕ → ℕ

@@ -5,6 +5,7 @@ mod build;
 pub mod read;
 
 ghost use Rattle.std.specs.Prelude.{◌≡◌, ℕ, ◌<◌, ◌≤◌, true, length, slice_index};
+ghost use Rattle.query.specs.Meaning.{most_states, last_label};
 ghost use Rattle.masks.specs.Members.{member};
 ghost use Rattle.expression.specs.Rows.{labels_in, rows_in};
 
@@ -29,10 +30,10 @@ pub struct Machine {
     // the start, and then one for each letter
     positions: ArrayVec<Position, MOST_STATES>,
     ghost start: { 1 ≤ length positions.items },
-    ghost few: { length positions.items ≤ 32 },
+    ghost few: { length positions.items ≤ most_states },
     // no state is named that is not there, and no move leads into the start
     ghost ends: { (s : ℕ) → member accepting s ≡ true → s < length positions.items },
     ghost into: { (s t : ℕ) → member (slice_index (rows_in positions.items) s) t ≡ true → 1 ≤ t },
     ghost within: { (s t : ℕ) → member (slice_index (rows_in positions.items) s) t ≡ true → t < length positions.items },
-    ghost labelled: { (t : ℕ) → slice_index (labels_in positions.items) t ≤ 15 },
+    ghost labelled: { (t : ℕ) → slice_index (labels_in positions.items) t ≤ last_label },
 }

@@ -5,6 +5,10 @@ use Rattle.std.specs.Prelude.{ℕ, ◌/◌, ◌%◌, ◌^◌, Bool, ◌&&◌, �
 unfoldable pub member : ℕ → ℕ → Bool
 member set k = (set / 2 ^ k % 2) == 1
 
--- The set with state k in it besides. Only the states 0 to 31 have a place.
+-- A set has places for this many states, from 0 on.
+abbrev pub places : ℕ
+places = 32
+
+-- The set with state k in it besides, where it has a place.
 abbrev pub with_member : ℕ → ℕ → ℕ → Bool
-with_member set k j = member set j || (nat_lt k 32 && j == k)
+with_member set k j = member set j || (nat_lt k places && j == k)

@@ -2,7 +2,7 @@
 #![tactic(auto, using(crate::proofs::Laws::mask_laws), unfolding(crate::specs::Members::member))]
 
 ghost use Rattle.std.specs.Prelude.{◌≡◌, ℕ, ◌<◌, ◌||◌, true, false, Bool};
-ghost use Rattle.masks.specs.Members.{member, with_member};
+ghost use Rattle.masks.specs.Members.{member, with_member, places};
 
 use std::marker::Model;
 use std::ops::{BitOr, BitOrAssign};
@@ -36,7 +36,7 @@ impl States {
     /// Whether the state is in the set. No state from 32 on is.
     pub fn contains(self, state: u32) -> bool
         ensures answer { result ≡ member self state }
-        ensures within { (j : ℕ) → member self j ≡ true → j < 32 }
+        ensures within { (j : ℕ) → member self j ≡ true → j < places }
     {
         state < PLACES && (self.bits >> state) % 2 == 1
     }

@@ -4,6 +4,7 @@ use Rattle.std.specs.Prelude.{◌↔◌}
 use Rattle.std.proofs.lemmas.List.Sums.{sum_by-cons}
 use Rattle.std.proofs.lemmas.Bool.Decides.{nat_tests}
 use Rattle.query.specs.Meaning.{Meaning}
+use Rattle.paths.specs.Links.{Windows}
 use Rattle.paths.specs.Plain.{Plain, idle, Standing, Call, opening, Memory, refusal, after}
 use Rattle.paths.specs.Runs.{Change, times, Reports, ReportOf, Takes, Event, Row, begin, then, times_in, BalanceLaw}
 use Rattle.paths.proofs.Chains.{first_link}
@@ -13,8 +14,8 @@ reports_none : (s s' : Plain) → ((a b : ℕ) → Standing s a b ↔ Standing s
 reports_none s s' same = grind arith
 
 -- A watch just opened keeps no link, so nothing stands.
-nothing_stands : (n window tag : ℕ) (query : Meaning) (a b : ℕ) → ¬ Standing (after idle (opening n window tag query)) a b
-nothing_stands n window tag query a b stands =
+nothing_stands : (n : ℕ) (windows : Windows) (tag : ℕ) (query : Meaning) (a b : ℕ) → ¬ Standing (after idle (opening n windows tag query)) a b
+nothing_stands n windows tag query a b stands =
     let (t, ts, spelt, there, least) = first_link _ a b _ stands.reached.1.path in
     grind (arith, nat_tests)
 
@@ -37,7 +38,7 @@ even_more a b es s e s' even told = grind (arith, told.announces a b, told.annou
 
 even_row : (memory : Memory) (a b : ℕ) {es : List Event} {s : Plain} → Row memory idle es s → Even a b es s
 even_row memory a b begin = (absurd, λ _. refl)
-even_row memory a b (then es s s' e row takes) = even_more a b es s e s' (even_row memory a b row) (reports_call memory s e s' takes)
+even_row memory a b (then es s s' e row lawful takes) = even_more a b es s e s' (even_row memory a b row) (reports_call memory s e s' takes)
 
 pub balance_law : BalanceLaw
 balance_law memory es s row a b = even_row memory a b row

@@ -1,8 +1,11 @@
+pub mod Numbers
 pub mod Links
+pub mod Words
 pub mod Paths
 pub mod Arrivals
 pub mod Pairs
 pub mod Tables
 pub mod Plain
+pub mod Asked
 pub mod Runs
-pub mod Cases
+pub mod Memory

@@ -3,8 +3,8 @@ use Rattle.std.proofs.Common.{◌≡◌, ℕ, ◌+◌, ◌*◌, ◌<◌, ◌≤�
 use native.Mathlib.Nat.{zero-div, zero-mod}
 use Rattle.std.proofs.lemmas.Nat.{mul-le, mul-add-lt, div-mul-add, mod-mul-add}
 use Rattle.std.proofs.lemmas.Bool.{and_from, cases_Bool, cond-true, cond-false, leb-true, le-leb, lt-ltb}
-use Rattle.query.specs.Both.{too_many, both_size, first_of, second_of, is_state, both_meaning, AcceptsBoth, ends_both, steps_both, both_lawful}
-use Rattle.query.specs.Meaning.{Meaning, Lawful, most_states}
+use Rattle.query.specs.Both.{both_size, first_state, second_state, is_state, both_meaning, AcceptsBoth, ends_both, steps_both, both_lawful}
+use Rattle.query.specs.Meaning.{Meaning, Lawful, most_states, too_many}
 use Rattle.query.specs.Words.{Leads, Accepts}
 
 -- The state that stands for state a of the first and state b of the second.
@@ -13,22 +13,22 @@ pair n a b = a * n.size + b
 
 module _ (m n : Meaning) where
   -- Moves along a word are moves of the first along it,
-  leads_first : (w : List ℕ) (s t : ℕ) → Leads (both_meaning m n) s w t → Leads m (first_of n s) w (first_of n t)
-  leads_first [] s t e = ap (first_of n) e
-  leads_first (l ∷ w) s t p = (first_of n p.0, (steps_both m n s l p.0 p.1).2, leads_first w p.0 t p.2)
+  leads_first : (w : List ℕ) (s t : ℕ) → Leads (both_meaning m n) s w t → Leads m (first_state n s) w (first_state n t)
+  leads_first [] s t e = ap (first_state n) e
+  leads_first (l ∷ w) s t p = (first_state n p.0, (steps_both m n s l p.0 p.1).2, leads_first w p.0 t p.2)
 
   -- and of the second.
-  leads_second : (w : List ℕ) (s t : ℕ) → Leads (both_meaning m n) s w t → Leads n (second_of n s) w (second_of n t)
-  leads_second [] s t e = ap (second_of n) e
-  leads_second (l ∷ w) s t p = (second_of n p.0, (steps_both m n s l p.0 p.1).3, leads_second w p.0 t p.2)
+  leads_second : (w : List ℕ) (s t : ℕ) → Leads (both_meaning m n) s w t → Leads n (second_state n s) w (second_state n t)
+  leads_second [] s t e = ap (second_state n) e
+  leads_second (l ∷ w) s t p = (second_state n p.0, (steps_both m n s l p.0 p.1).3, leads_second w p.0 t p.2)
 
   -- A word that the query accepts, both parts accept.
   accepts_parts : (w : List ℕ) → Accepts (both_meaning m n) w → Accepts m w × Accepts n w
   accepts_parts w a =
       let t = a.0 in
       let e = ends_both m n t a.2 in (
-        (first_of n t, subst (λ (s : ℕ). Leads m s w (first_of n t)) (zero-div n.size) (leads_first w 0 t a.1), e.1),
-        (second_of n t, subst (λ (s : ℕ). Leads n s w (second_of n t)) (zero-mod n.size) (leads_second w 0 t a.1), e.2),
+        (first_state n t, subst (λ (s : ℕ). Leads m s w (first_state n t)) (zero-div n.size) (leads_first w 0 t a.1), e.1),
+        (second_state n t, subst (λ (s : ℕ). Leads n s w (second_state n t)) (zero-mod n.size) (leads_second w 0 t a.1), e.2),
       )
 
   -- Unless there are too many states, there is one for each pair.
@@ -51,20 +51,20 @@ module _ (m n : Meaning) where
     pair_ends : (a b : ℕ) → a < m.size → b < n.size → m.accepting a ≡ true → n.accepting b ≡ true → (both_meaning m n).accepting (pair n a b) ≡ true
     pair_ends a b p q x y =
         let s = pair n a b in
-        let first : m.accepting (first_of n s) ≡ true = ap m.accepting (div-mul-add a n.size b q) ∙ x in
-        let second : n.accepting (second_of n s) ≡ true = ap n.accepting (mod-mul-add a n.size b q) ∙ y in
-        and_from (is_state m n s && m.accepting (first_of n s)) (n.accepting (second_of n s))
-        (and_from (is_state m n s) (m.accepting (first_of n s)) (pair_state a b p q) first) second
+        let first : m.accepting (first_state n s) ≡ true = ap m.accepting (div-mul-add a n.size b q) ∙ x in
+        let second : n.accepting (second_state n s) ≡ true = ap n.accepting (mod-mul-add a n.size b q) ∙ y in
+        and_from (is_state m n s && m.accepting (first_state n s)) (n.accepting (second_state n s))
+        (and_from (is_state m n s) (m.accepting (first_state n s)) (pair_state a b p q) first) second
 
     -- and two moves on one label are one of the pairs.
     pair_steps : (a b l c d : ℕ) → a < m.size → b < n.size → c < m.size → d < n.size → m.moves a l c ≡ true → n.moves b l d ≡ true → (both_meaning m n).moves (pair n a b) l (pair n c d) ≡ true
     pair_steps a b l c d pa pb pc pd x y =
         let s = pair n a b in
         let t = pair n c d in
-        let first : m.moves (first_of n s) l (first_of n t) ≡ true = rw (div-mul-add a n.size b pb, div-mul-add c n.size d pd) x in
-        let second : n.moves (second_of n s) l (second_of n t) ≡ true = rw (mod-mul-add a n.size b pb, mod-mul-add c n.size d pd) y in
-        and_from (is_state m n s && is_state m n t && m.moves (first_of n s) l (first_of n t)) (n.moves (second_of n s) l (second_of n t))
-        (and_from (is_state m n s && is_state m n t) (m.moves (first_of n s) l (first_of n t)) (and_from (is_state m n s) (is_state m n t) (pair_state a b pa pb) (pair_state c d pc pd)) first)
+        let first : m.moves (first_state n s) l (first_state n t) ≡ true = rw (div-mul-add a n.size b pb, div-mul-add c n.size d pd) x in
+        let second : n.moves (second_state n s) l (second_state n t) ≡ true = rw (mod-mul-add a n.size b pb, mod-mul-add c n.size d pd) y in
+        and_from (is_state m n s && is_state m n t && m.moves (first_state n s) l (first_state n t)) (n.moves (second_state n s) l (second_state n t))
+        (and_from (is_state m n s && is_state m n t) (m.moves (first_state n s) l (first_state n t)) (and_from (is_state m n s) (is_state m n t) (pair_state a b pa pb) (pair_state c d pc pd)) first)
         second
 
     module _ (lm : Lawful m) (ln : Lawful n) where

@@ -1,27 +1,23 @@
 -- What a query of two queries means: it goes over a word in both at once.
-use Rattle.std.specs.Prelude.{◌≡◌, ℕ, ◌+◌, ◌*◌, ◌/◌, ◌%◌, ◌<◌, ◌≤◌, Bool, true, if◌then◌else◌, ◌&&◌, ◌≢◌, List, nat_le, nat_lt, IsTrue}
+use Rattle.std.specs.Prelude.{◌≡◌, ℕ, ◌*◌, ◌/◌, ◌%◌, ◌<◌, ◌≤◌, Bool, true, if◌then◌else◌, ◌&&◌, ◌≢◌, List, nat_le, nat_lt, IsTrue}
 use Rattle.std.proofs.Common.{arith}
 use Rattle.std.proofs.lemmas.Nat.{mul-le}
 use Rattle.std.proofs.lemmas.Bool.{and_parts, leb-true, ltb-true, cond_both}
-use Rattle.query.specs.Meaning.{Meaning, Lawful, most_states}
+use Rattle.query.specs.Meaning.{Meaning, Lawful, most_states, too_many}
 use Rattle.query.specs.Words.{Accepts}
 use Rattle.query.specs.declared.both.Both.{Both}
-
--- The size that stands for too many states.
-abbrev pub too_many : ℕ
-too_many = most_states + 1
 
 -- There is a state for each pair of a state of the first and a state of the second, unless those are too many.
 abbrev pub both_size : Meaning → Meaning → ℕ
 both_size m n = if nat_le (m.size * n.size) most_states then m.size * n.size else too_many
 
 -- The pair of state a of the first and state b of the second is the state a times the second's size plus b, so a is the quotient by that size.
-abbrev pub first_of : Meaning → ℕ → ℕ
-first_of n s = s / n.size
+abbrev pub first_state : Meaning → ℕ → ℕ
+first_state n s = s / n.size
 
 -- And b is the remainder.
-abbrev pub second_of : Meaning → ℕ → ℕ
-second_of n s = s % n.size
+abbrev pub second_state : Meaning → ℕ → ℕ
+second_state n s = s % n.size
 
 -- The number s is a state where it is below the size; where there are too many states, no number is.
 abbrev pub is_state : Meaning → Meaning → ℕ → Bool
@@ -31,8 +27,8 @@ is_state m n s = nat_le (both_size m n) most_states && nat_lt s (both_size m n)
 abbrev pub both_meaning : Meaning → Meaning → Meaning
 both_meaning m n = record {
   size = both_size m n;
-  accepting = λ s. is_state m n s && m.accepting (first_of n s) && n.accepting (second_of n s);
-  moves = λ s l t. is_state m n s && is_state m n t && m.moves (first_of n s) l (first_of n t) && n.moves (second_of n s) l (second_of n t);
+  accepting = λ s. is_state m n s && m.accepting (first_state n s) && n.accepting (second_state n s);
+  moves = λ s l t. is_state m n s && is_state m n t && m.moves (first_state n s) l (first_state n t) && n.moves (second_state n s) l (second_state n t);
 }
 
 -- What a value of two queries means, where `first` and `second` say what each of the two means.
@@ -52,17 +48,17 @@ state_below m n s e =
     (ltb-true s (both_size m n) p.1, leb-true (both_size m n) most_states p.0)
 
 -- Both parts of a state that accepts do.
-pub ends_both : (m n : Meaning) (s : ℕ) → (both_meaning m n).accepting s ≡ true → (is_state m n s ≡ true) × IsTrue (m.accepting (first_of n s)) × IsTrue (n.accepting (second_of n s))
+pub ends_both : (m n : Meaning) (s : ℕ) → (both_meaning m n).accepting s ≡ true → (is_state m n s ≡ true) × IsTrue (m.accepting (first_state n s)) × IsTrue (n.accepting (second_state n s))
 ends_both m n s e =
-    let p = and_parts (is_state m n s && m.accepting (first_of n s)) (n.accepting (second_of n s)) e in
-    let q = and_parts (is_state m n s) (m.accepting (first_of n s)) p.0 in
+    let p = and_parts (is_state m n s && m.accepting (first_state n s)) (n.accepting (second_state n s)) e in
+    let q = and_parts (is_state m n s) (m.accepting (first_state n s)) p.0 in
     (q.0, q.1, p.1)
 
 -- A move is one of each part.
-pub steps_both : (m n : Meaning) (s l t : ℕ) → (both_meaning m n).moves s l t ≡ true → (is_state m n s ≡ true) × (is_state m n t ≡ true) × IsTrue (m.moves (first_of n s) l (first_of n t)) × IsTrue (n.moves (second_of n s) l (second_of n t))
+pub steps_both : (m n : Meaning) (s l t : ℕ) → (both_meaning m n).moves s l t ≡ true → (is_state m n s ≡ true) × (is_state m n t ≡ true) × IsTrue (m.moves (first_state n s) l (first_state n t)) × IsTrue (n.moves (second_state n s) l (second_state n t))
 steps_both m n s l t e =
-    let p = and_parts (is_state m n s && is_state m n t && m.moves (first_of n s) l (first_of n t)) (n.moves (second_of n s) l (second_of n t)) e in
-    let q = and_parts (is_state m n s && is_state m n t) (m.moves (first_of n s) l (first_of n t)) p.0 in
+    let p = and_parts (is_state m n s && is_state m n t && m.moves (first_state n s) l (first_state n t)) (n.moves (second_state n s) l (second_state n t)) e in
+    let q = and_parts (is_state m n s && is_state m n t) (m.moves (first_state n s) l (first_state n t)) p.0 in
     let r = and_parts (is_state m n s) (is_state m n t) q.0 in
     (r.0, r.1, q.1, p.1)
 
@@ -80,5 +76,5 @@ both_lawful m n lm ln = record {
       let p = steps_both m n s l t e in
       let from = state_below m n s p.0 in
       let to = state_below m n t p.1 in
-      (from.0, (lm.steps (first_of n s) l (first_of n t) p.2).1, to.0, to.1);
+      (from.0, (lm.steps (first_state n s) l (first_state n t) p.2).1, to.0, to.1);
 }

@@ -1,7 +1,7 @@
 // Two queries as one, which goes over a word in both at once and so accepts the words that both accept.
 ghost use Rattle.std.specs.Prelude.{◌≡◌, ◌↔◌, IsTrue};
 ghost use Rattle.query.specs.Words.{Accepts};
-ghost use Rattle.query.specs.Both.{first_of, second_of, is_state, both_meaning, both_lawful, meaning_of, AcceptsBoth};
+ghost use Rattle.query.specs.Both.{first_state, second_state, is_state, both_meaning, both_lawful, meaning_of, AcceptsBoth};
 
 use crate::{MOST_STATES, Query, TOO_MANY_STATES, accept};
 
@@ -31,8 +31,8 @@ impl<A: Query, B: Query> Both<A, B> {
 
     // The two states that the state stands for.
     fn parts(&self, state: u32) -> (u32, u32)
-        ensures first { result.0 ≡ first_of (B.meaning self.now.second) state }
-        ensures second { result.1 ≡ second_of (B.meaning self.now.second) state }
+        ensures first { result.0 ≡ first_state (B.meaning self.now.second) state }
+        ensures second { result.1 ≡ second_state (B.meaning self.now.second) state }
     {
         let count = self.second.size();
         (state / count, state % count)

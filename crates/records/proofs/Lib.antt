@@ -1,1 +1,3 @@
 pub mod Words
+pub mod StartWords
+pub mod OneDecoding

@@ -1,111 +1,123 @@
--- What a tape's words say. Other bits than those named are zero.
-use Rattle.std.specs.Prelude.{◌≡◌, ℕ, ◌+◌, ◌-◌, ◌*◌, ◌/◌, ◌%◌, Bool, if◌then◌else◌, not, List, [], ◌∷◌, length, take, Some, None, Ok, Err, Option, Result, ◌==◌, nat_lt, slice_index}
+-- The words of a tape's records, and what decoding them answers.
+use Rattle.std.specs.Prelude.{◌≡◌, ℕ, ◌+◌, ◌*◌, ◌^◌, ◌<◌, ◌≤◌, Bool, List, [], ◌∷◌, ◌++◌, length, take, Some, None, Ok, Err, Option, Result, slice_index, IsTrue, IsFalse}
+use Rattle.paths.specs.Links.{Triple}
+use Rattle.paths.specs.Words.{advance_word, add_word, triple_bits, HasWord}
 use Rattle.watch.specs.declared.opening.Opening.{Opening}
-use Rattle.watch.specs.declared.triple.Triple.{Triple}
+use Rattle.watch.specs.declared.triple.Triple.{Triple as TripleRead}
 use Rattle.records.specs.declared.fault.TapeFault.{TapeFault}
-use Rattle.records.specs.declared.fault.TapeFault.TheVariants.{Short, Stray}
+use Rattle.records.specs.declared.fault.TapeFault.TheVariants.{Short, Stray, TooLong, Expression}
 use Rattle.records.specs.declared.record.Start.{Start}
 use Rattle.records.specs.declared.record.NotARecord.{NotARecord}
 use Rattle.records.specs.declared.record.Record.{Record}
 use Rattle.records.specs.declared.record.Record.TheVariants as record_of
 
 -- A start as plain values.
-pub record StartShape : Type 0 where
+pub record PlainStart : Type 0 where
   pub n : ℕ
   pub window : ℕ
   pub expression : List ℕ
 
 -- A record as plain values.
-pub data Shape : Type 0 where
-  start : StartShape → Shape
-  advance : (clock : ℕ) → Shape
-  add : (link : Triple) → Shape
-  drop : (link : Triple) → Shape
+pub data PlainRecord : Type 0 where
+  start : PlainStart → PlainRecord
+  advance : (clock : ℕ) → PlainRecord
+  add : (link : Triple) → PlainRecord
+  drop : (link : Triple) → PlainRecord
 
--- The plain values of a start, from what the watch is opened with and the expression's words, and those of a record.
-abbrev pub plain_start : Opening → List ℕ → StartShape
+-- A start's words: 0x80000000 with n in bits 0 to 7 and the expression's word count from bit 8 on, 0x90000000 with the window in the low
+-- 28 bits, and then the expression.
+abbrev pub start_words : PlainStart → List ℕ
+start_words s = (0x80000000 + 256 * length s.expression + s.n) ∷ (0x90000000 + s.window) ∷ s.expression
+
+-- A start has words where n fits into eight bits, the count into nine and the window into 28.
+pub record StartHasWords (s : PlainStart) : Type 0 where
+  pub n : s.n < 256
+  pub count : length s.expression < 512
+  pub window : s.window < 2 ^ 28
+
+-- A drop is 0xC0000000 with the triple's bits.
+abbrev pub drop_word : Triple → ℕ
+drop_word t = 0xC0000000 + triple_bits t
+
+-- Each record but a start is one word.
+abbrev pub words_of_record : PlainRecord → List ℕ
+words_of_record (start s) = start_words s
+words_of_record (advance clock) = advance_word clock ∷ []
+words_of_record (add t) = add_word t ∷ []
+words_of_record (drop t) = drop_word t ∷ []
+
+-- Which records have words.
+abbrev pub HasWords : PlainRecord → Type 0
+HasWords (start s) = StartHasWords s
+HasWords (advance clock) = clock < 2 ^ 28
+HasWords (add t) = HasWord t
+HasWords (drop t) = HasWord t
+
+-- The words are those of the record, which has some.
+pub record AreWordsOf (r : PlainRecord) (ws : List ℕ) : Type 0 where
+  pub has : HasWords r
+  pub words : words_of_record r ≡ ws
+
+-- What a start and a record of the program say, as plain values.
+abbrev pub plain_start : Opening → List ℕ → PlainStart
 plain_start o expression = record { n = o.n; window = o.window; expression = expression }
 
-abbrev pub shape_of : Record → Shape
-shape_of (record_of.Start s) = start (plain_start s.opening s.expression.now)
-shape_of (record_of.Advance clock) = advance clock
-shape_of (record_of.Add link) = add link
-shape_of (record_of.Drop link) = drop link
+abbrev pub plain_triple : TripleRead → Triple
+plain_triple t = record { from = t.from; to = t.to; label = t.label }
 
-abbrev pub seen_start : Result Start TapeFault → Result StartShape TapeFault
-seen_start (Ok s) = Ok (plain_start s.opening s.expression.now)
-seen_start (Err f) = Err f
+abbrev pub plain_record : Record → PlainRecord
+plain_record (record_of.Start s) = start (plain_start s.opening s.expression.now)
+plain_record (record_of.Advance clock) = advance clock
+plain_record (record_of.Add t) = add (plain_triple t)
+plain_record (record_of.Drop t) = drop (plain_triple t)
 
-abbrev pub seen_record : Result (Option Record) TapeFault → Result (Option Shape) TapeFault
-seen_record (Ok None) = Ok None
-seen_record (Ok (Some r)) = Ok (Some (shape_of r))
-seen_record (Err f) = Err f
-
--- Word 0 is 0x80000000 with n in bits 0 to 7 and the expression's word count in bits 8 to 16.
-abbrev pub points_in : ℕ → ℕ
-points_in w = w % 256
-
-abbrev pub count_in : ℕ → ℕ
-count_in w = w / 256 % 512
-
-abbrev pub is_start : ℕ → Bool
-is_start w = w == 0x80000000 + 256 * count_in w + points_in w
-
--- Word 1 is 0x90000000 with the window in the low 28 bits.
-abbrev pub is_window : ℕ → Bool
-is_window w = w / 0x10000000 == 9
-
--- The start of a tape with these whole words: the first two words, and then the expression, which is a part of the tape.
--- A tape that ends inside the start is faulty at the count of its words.
-abbrev pub start_shape : List ℕ → Result StartShape TapeFault
-start_shape [] = Err (Short 0)
-start_shape (w ∷ []) = if is_start w then Err (Short 1) else Err (Stray 0)
-start_shape (w ∷ v ∷ ws) =
-    if not (is_start w) then Err (Stray 0)
-    else if not (is_window v) then Err (Stray 1)
-    else if nat_lt (length ws) (count_in w) then Err (Short (length ws + 2))
-    else Ok (record { n = points_in w; window = v - 0x90000000; expression = take (count_in w) ws })
-
--- Each further record is one word: 0xA in the top four bits is an advance, with the clock in the other 28.
-abbrev pub is_advance : ℕ → Bool
-is_advance w = w / 0x10000000 == 0xA
-
--- 0xB adds a link and 0xC drops one: the to point in bits 0 to 7, the from point in bits 8 to 15, the label in bits 16 to 19.
-abbrev pub to_in : ℕ → ℕ
-to_in w = w % 256
-
-abbrev pub from_in : ℕ → ℕ
-from_in w = w / 256 % 256
-
-abbrev pub label_in : ℕ → ℕ
-label_in w = w / 65536 % 16
-
-abbrev pub link_in : ℕ → ℕ
-link_in w = 65536 * label_in w + 256 * from_in w + to_in w
-
-abbrev pub triple_in : ℕ → Triple
-triple_in w = record { from = from_in w; to = to_in w; label = label_in w }
-
-abbrev pub word_shape : ℕ → Option Shape
-word_shape w =
-    if is_advance w then Some (advance (w % 0x10000000))
-    else if w == 0xB0000000 + link_in w then Some (add (triple_in w))
-    else if w == 0xC0000000 + link_in w then Some (drop (triple_in w))
-    else None
-
--- What decoding a word answers: the record, or the word itself where it stands for none.
+-- Decoding a word answers the record that has this one word, or the word itself where no record has.
 abbrev pub Decodes : ℕ → Result Record NotARecord → Type 0
-Decodes w (Ok r) = word_shape w ≡ Some (shape_of r)
-Decodes w (Err e) = (word_shape w ≡ None) × (e.0 ≡ w)
+Decodes w (Ok r) = AreWordsOf (plain_record r) (w ∷ [])
+Decodes w (Err e) = ((r : PlainRecord) → ¬ AreWordsOf r (w ∷ [])) × (e.0 ≡ w)
 
--- A word at its place: a record, or one that does not belong there.
-abbrev pub placed : ℕ → Option Shape → Result (Option Shape) TapeFault
-placed p (Some x) = Ok (Some x)
-placed p None = Err (Stray p)
+-- Decoding the record at a place after the start answers the record that has the word there, or that the word does not belong there where no
+-- record has. At the end of the whole words there is no record, unless the tape is cut: then it ends inside one.
+abbrev pub DecodesNext : List ℕ → Bool → ℕ → Result (Option Record) TapeFault → Type 0
+DecodesNext ws cut p (Ok (Some r)) = (p < length ws) × AreWordsOf (plain_record r) (slice_index ws p ∷ [])
+DecodesNext ws cut p (Ok None) = (length ws ≤ p) × IsFalse cut
+DecodesNext ws cut p (Err (Stray q)) = (q ≡ p) × (p < length ws) × ((r : PlainRecord) → ¬ AreWordsOf r (slice_index ws p ∷ []))
+DecodesNext ws cut p (Err (Short q)) = (q ≡ length ws) × (length ws ≤ p) × IsTrue cut
+DecodesNext ws cut p (Err TooLong) = ⊥
+DecodesNext ws cut p (Err (Expression f)) = ⊥
 
--- The record at a place after the start; at the end there is none, unless a word is cut there.
-abbrev pub record_shape : List ℕ → Bool → ℕ → Result (Option Shape) TapeFault
-record_shape ws cut p =
-    if nat_lt p (length ws) then placed p (word_shape (slice_index ws p))
-    else if cut then Err (Short (length ws))
-    else Ok None
+-- A tape of these whole words begins with the start.
+pub record BeginsWith (s : PlainStart) (ws : List ℕ) : Type 0 where
+  pub has : StartHasWords s
+  pub rest : List ℕ
+  pub words : ws ≡ start_words s ++ rest
+
+-- All these words belong to some start: they are its first ones.
+pub record BelongToAStart (ws : List ℕ) : Type 0 where
+  pub start : PlainStart
+  pub has : StartHasWords start
+  pub rest : List ℕ
+  pub words : ws ++ rest ≡ start_words start
+
+-- Where the start is faulty: at the leftmost word that belongs to no start, or at the count of the words where the tape ends inside the start.
+abbrev pub FaultyAt : List ℕ → TapeFault → Type 0
+FaultyAt ws (Stray p) = (p < length ws) × BelongToAStart (take p ws) × (¬ BelongToAStart (take (p + 1) ws))
+FaultyAt ws (Short p) = (p ≡ length ws) × BelongToAStart ws
+FaultyAt ws TooLong = ⊥
+FaultyAt ws (Expression f) = ⊥
+
+-- The tape begins with no start.
+pub record BeginsWithNone (ws : List ℕ) (f : TapeFault) : Type 0 where
+  pub none : (s : PlainStart) → ¬ BeginsWith s ws
+  pub place : FaultyAt ws f
+
+-- Decoding the start answers the start that the tape begins with, or the fault where it begins with none.
+abbrev pub DecodesStart : List ℕ → Result Start TapeFault → Type 0
+DecodesStart ws (Ok s) = BeginsWith (plain_start s.opening s.expression.now) ws
+DecodesStart ws (Err f) = BeginsWithNone ws f
+
+-- What is decoded is determined: where one record's words begin as another's, the two are the same, and what follows them is too. A tape's
+-- start has one fault at most.
+pub record OneDecoding : Type 0 where
+  pub one_record : (r q : PlainRecord) (a b : List ℕ) → HasWords r → HasWords q → words_of_record r ++ a ≡ words_of_record q ++ b → (r ≡ q) × (a ≡ b)
+  pub one_fault : (ws : List ℕ) (f g : TapeFault) → BeginsWithNone ws f → BeginsWithNone ws g → f ≡ g

@@ -2,9 +2,9 @@
 ghost use Rattle.std.specs.Prelude.{◌≡◌};
 ghost use Rattle.records.specs.declared.fault.TapeFault.TheVariants.{Expression};
 ghost use Rattle.records.specs.declared.fault.RunFault.TheVariants.{Tape, Watch};
-ghost use Rattle.records.specs.Faults.{tape_number, tape_word, layer_of, number_of, word_of};
+ghost use Rattle.records.specs.Faults.{tape_number, tape_word, layer_of_fault, number_of_fault, word_of_fault};
 
-use crate::load::MOST_WORDS;
+use crate::load::MOST_TAPE_WORDS;
 use expression::fault::Fault;
 use thiserror::Error;
 use watch::refusal::Refusal;
@@ -54,7 +54,7 @@ impl TapeFault {
     {
         match self {
             TapeFault::Short { word } | TapeFault::Stray { word } => word,
-            TapeFault::TooLong => MOST_WORDS,
+            TapeFault::TooLong => MOST_TAPE_WORDS,
             TapeFault::Expression(fault) => fault.place.saturating_add(2),
         }
     }
@@ -90,7 +90,7 @@ impl From<Refusal> for RunFault {
 impl RunFault {
     /// The layer in which the fault arose: 1 expression, 2 tape, 3 watch.
     pub fn layer(self) -> u32
-        ensures { result ≡ layer_of self }
+        ensures { result ≡ layer_of_fault self }
     {
         match self {
             RunFault::Tape(TapeFault::Expression(_)) => 1,
@@ -101,7 +101,7 @@ impl RunFault {
 
     /// The number by which the fault is told to users.
     pub fn number(self) -> u32
-        ensures { result ≡ number_of self }
+        ensures { result ≡ number_of_fault self }
     {
         match self {
             RunFault::Tape(fault) => fault.number(),
@@ -111,7 +111,7 @@ impl RunFault {
 
     /// The word of the tape at which the fault is. An opening is refused at word 0.
     pub fn word(self) -> usize
-        ensures { result ≡ word_of self }
+        ensures { result ≡ word_of_fault self }
     {
         match self {
             RunFault::Tape(fault) => fault.word(),

@@ -2,7 +2,7 @@
 ghost use Rattle.std.specs.Prelude.{◌≡◌, ◌/◌, ◌%◌, length};
 ghost use Rattle.records.specs.declared.fault.TapeFault.TheVariants.{Short};
 ghost use Rattle.records.specs.declared.record.Record.TheVariants.{Start as start_record};
-ghost use Rattle.records.specs.Records.{start_shape, record_shape, Decodes, seen_start, seen_record};
+ghost use Rattle.records.specs.Records.{DecodesStart, DecodesNext, Decodes};
 
 use crate::fault::TapeFault;
 use query::LAST_LABEL;
@@ -64,7 +64,7 @@ impl<'a> Tape<'a> {
     ///
     /// Refused, from the left, are a word that does not belong there, and a tape that ends inside the start, at the count of its words.
     pub fn start(&self) -> Result<Start<'a>, TapeFault>
-        ensures { seen_start result ≡ start_shape self.now.words.now }
+        ensures { DecodesStart self.now.words.now result }
     {
         let (first, rest) = self.words.split_first().ok_or(self.short())?;
         let (kind, low) = split(*first);
@@ -88,7 +88,7 @@ impl<'a> Tape<'a> {
     ///
     /// Refused are a word that does not belong there, and a tape that ends inside a record, at the count of its words.
     pub fn next(&self, place: usize) -> Result<Option<Record<'a>>, TapeFault>
-        ensures { seen_record result ≡ record_shape self.now.words.now self.now.cut place }
+        ensures { DecodesNext self.now.words.now self.now.cut place result }
     {
         match self.words.get(place) {
             Some(word) => Record::try_from(*word)

@@ -5,14 +5,14 @@ use anyhow::bail;
 use query::Query;
 use records::fault::RunFault;
 use records::line::Line;
-use records::load::{MOST_BYTES, MOST_WORDS};
+use records::load::{MOST_TAPE_BYTES, MOST_TAPE_WORDS};
 use records::record::Tape;
 use records::start::Begun;
 use records::{load, start};
 use std::io::Read;
 
 /// One byte more than a tape may have, so that a longer one is seen.
-const INPUT: u64 = MOST_BYTES as u64 + 1;
+const INPUT: u64 = MOST_TAPE_BYTES as u64 + 1;
 
 fn main(rt: HostRuntime) -> anyhow::Result<()> {
     run(&rt)
@@ -21,7 +21,7 @@ fn main(rt: HostRuntime) -> anyhow::Result<()> {
 fn run(rt: &HostRuntime) -> anyhow::Result<()> {
     let mut input = Vec::new(rt.alloc());
     rt.stdin().take(INPUT).read_to_end(&mut input)?;
-    let mut words = [0; MOST_WORDS];
+    let mut words = [0; MOST_TAPE_WORDS];
     match open(&input, &mut words) {
         Ok((tape, begun)) => follow(rt, &tape, &begun),
         Err(fault) => print(rt, Line::Fault(fault)),
@@ -31,7 +31,7 @@ fn run(rt: &HostRuntime) -> anyhow::Result<()> {
 // The tape in the bytes, and everything up to its first record.
 fn open<'a>(
     bytes: &[u8],
-    memory: &'a mut [u32; MOST_WORDS],
+    memory: &'a mut [u32; MOST_TAPE_WORDS],
 ) -> Result<(Tape<'a>, Begun), RunFault> {
     let whole = load::load(bytes, memory)?;
     let tape = Tape {

@@ -12,7 +12,7 @@ use anyhow::Context;
 use command::Command;
 use expression::fault::Fault;
 use expression::machine::Machine;
-use product::{Refusal, Verdict};
+use product::{NotTried, Verdict};
 use query::{Query, accept};
 use std::alloc::{AllocError, Global};
 use std::io::{Read, Write};
@@ -78,10 +78,10 @@ fn read(machine: &mut Machine, words: &[u32], answers: &mut String) -> anyhow::R
     }
 }
 
-fn tell(answers: &mut String, verdict: Result<Verdict, Refusal>) -> anyhow::Result<()> {
+fn tell(answers: &mut String, verdict: Result<Verdict, NotTried>) -> anyhow::Result<()> {
     match verdict {
         Ok(verdict) => Ok(writeln!(answers, "{verdict}")?),
-        Err(Refusal::Expression(fault)) => tell_fault(answers, fault),
+        Err(NotTried::Expression(fault)) => tell_fault(answers, fault),
         Err(cut) => Err(cut.into()),
     }
 }

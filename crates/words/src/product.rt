@@ -9,7 +9,7 @@ use thiserror::Error;
 
 /// Why a word is not tried.
 #[derive(Clone, Copy, Debug, PartialEq, Eq, Error)]
-pub enum Refusal {
+pub enum NotTried {
     /// The payload ends inside an expression, or before one.
     #[error("the expressions of a command are cut")]
     Cut,
@@ -40,16 +40,16 @@ struct Payload<'a> {
 
 impl<'a> Payload<'a> {
     // Takes the next expression.
-    fn expression(&mut self) -> Result<&'a [u32], Refusal> {
-        let (count, rest) = self.rest.split_first().ok_or(Refusal::Cut)?;
-        let (expression, rest) = rest.split_at_checked(*count as usize).ok_or(Refusal::Cut)?;
+    fn expression(&mut self) -> Result<&'a [u32], NotTried> {
+        let (count, rest) = self.rest.split_first().ok_or(NotTried::Cut)?;
+        let (expression, rest) = rest.split_at_checked(*count as usize).ok_or(NotTried::Cut)?;
         self.rest = rest;
         Ok(expression)
     }
 }
 
 /// Tries a word on the product of two machines.
-pub(crate) fn of_two(words: &[u32]) -> Result<Verdict, Refusal> {
+pub(crate) fn of_two(words: &[u32]) -> Result<Verdict, NotTried> {
     let mut payload = Payload { rest: words };
     let [a, b]: [_; 2] = array::try_from_fn(|_| payload.expression())?;
     let both = pair(machine_of(a)?, machine_of(b)?);
@@ -57,12 +57,12 @@ pub(crate) fn of_two(words: &[u32]) -> Result<Verdict, Refusal> {
 }
 
 /// Tries a word on the product of the first two machines' product and the third.
-pub(crate) fn of_two_and_one(words: &[u32]) -> Result<Verdict, Refusal> {
+pub(crate) fn of_two_and_one(words: &[u32]) -> Result<Verdict, NotTried> {
     of_three(words, |a, b, c| pair(pair(a, b), c))
 }
 
 /// Tries a word on the product of the first machine and the other two's product.
-pub(crate) fn of_one_and_two(words: &[u32]) -> Result<Verdict, Refusal> {
+pub(crate) fn of_one_and_two(words: &[u32]) -> Result<Verdict, NotTried> {
     of_three(words, |a, b, c| pair(a, pair(b, c)))
 }
 
@@ -71,7 +71,7 @@ pub(crate) fn of_one_and_two(words: &[u32]) -> Result<Verdict, Refusal> {
 fn of_three<Q: Query + Drop, F: FnOnce(Machine, Machine, Machine) -> Q>(
     words: &[u32],
     product: F,
-) -> Result<Verdict, Refusal>
+) -> Result<Verdict, NotTried>
     requires { F.IsAlwaysCallable product }
 {
     let mut payload = Payload { rest: words };

@@ -1,6 +1,6 @@
-// A machine is a query.
+// A machine is a query, with a law of its own.
 ghost use Rattle.std.specs.Prelude.{◌≡◌};
-ghost use Rattle.expression.specs.Machines.{machine_meaning, machine_lawful};
+ghost use Rattle.expression.specs.Machines.{machine_meaning, machine_lawful, MachineLaw};
 
 use crate::machine::Machine;
 use query::Query;
@@ -28,4 +28,11 @@ impl Query for Machine {
         };
         from.next.contains(next) && to.label == label
     }
+}
+
+impl Machine {
+    /// Carries the law of every machine.
+    pub fn law(&self)
+        ensures { MachineLaw (machine_meaning self.now) }
+    {}
 }

@@ -1,5 +1,7 @@
 // How a machine is built while its expression is read.
 ghost use Rattle.std.specs.Prelude.{◌≡◌, ℕ, ◌+◌, ◌<◌, ◌≤◌, true, ◌&&◌, ◌||◌, [], ◌∷◌, ◌++◌, length, slice_index};
+ghost use Rattle.expression.specs.Scan.{most_letters};
+ghost use Rattle.query.specs.Meaning.{most_states, last_label};
 ghost use Rattle.masks.specs.Members.{member};
 ghost use Rattle.expression.specs.Machines.{Empty, letters_in};
 ghost use Rattle.expression.specs.Rows.{labels_in, rows_in};
@@ -36,8 +38,8 @@ impl Machine {
 
     // One letter more, and its state.
     pub(crate) fn letter(&mut self, label: u32) -> u32
-        requires room { letters_in self.old < 31 }
-        requires label { label ≤ 15 }
+        requires room { letters_in self.old < most_letters }
+        requires label { label ≤ last_label }
         ensures value { result ≡ letters_in self.old + 1 }
         ensures labels { labels_in self.new.positions.items ≡ labels_in self.old.positions.items ++ label ∷ [] }
         ensures rows { rows_in self.new.positions.items ≡ rows_in self.old.positions.items ++ 0 ∷ [] }
@@ -91,7 +93,7 @@ impl Machine {
 
 // Puts the states of `to` after each state of `from`.
 fn link_all(positions: &mut [Position], from: States, to: States)
-    requires few { length positions.old ≤ 32 }
+    requires few { length positions.old ≤ most_states }
     requires within { (s : ℕ) → member from s ≡ true → s < length positions.old }
     ensures places { length positions.new ≡ length positions.old }
     ensures labels { labels_in positions.new ≡ labels_in positions.old }

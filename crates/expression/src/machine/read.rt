@@ -5,7 +5,7 @@ use crate::fault::{Cause, Fault};
 use crate::machine::Machine;
 use crate::reader;
 
-const MOST_WORDS: usize = 256;
+const MOST_EXPRESSION_WORDS: usize = 256;
 
 impl Machine {
     /// Reads an expression and fills the machine anew. A refusal leaves the machine as it was.
@@ -14,7 +14,7 @@ impl Machine {
     pub fn read(&mut self, words: &[u32]) -> Result<(), Fault>
         ensures { ReadingAnswers words.now self.old self.new result }
     {
-        if words.is_empty() || words.len() > MOST_WORDS {
+        if words.is_empty() || words.len() > MOST_EXPRESSION_WORDS {
             return Err(Fault {
                 cause: Cause::WordCount,
                 place: 0,

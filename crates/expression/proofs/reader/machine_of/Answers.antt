@@ -1,4 +1,4 @@
-use Rattle.expression.proofs.Whole.{trailing, no_fault, fills}
+use Rattle.expression.proofs.Whole.{trailing, no_fault, well_formed, fills}
 use Rattle.expression.proofs.reader.machine_of.Goals as goal
 
 pub returns-then-reader-words : goal.returns-then-reader-words
@@ -8,4 +8,5 @@ returns-then-reader-words c =
 pub returns : goal.returns
 returns c =
     let read = c.in_ok-whole.ensures.read in
-    (no_fault c.empty.ensures read c.if-reader-words.false, fills c.empty.ensures read c.if-reader-words.false c.finish.ensures)
+    let done = c.if-reader-words.false in
+    (no_fault c.empty.ensures read done, well_formed c.empty.ensures read done, fills c.empty.ensures read done c.finish.ensures)

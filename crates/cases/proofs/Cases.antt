@@ -13,7 +13,7 @@ use Rattle.paths.specs.Paths.{word, path_time, time_of}
 use Rattle.paths.specs.Arrivals.{Arrives}
 use Rattle.paths.specs.Pairs.{PairTime}
 use Rattle.paths.proofs.Chains.{first_link}
-use Rattle.paths.specs.Cases.{QueryOf, link, WorkedCases}
+use Rattle.cases.specs.Cases.{QueryOf, link, WorkedCases}
 
 -- The expression 1 2 denotes just the word (1 2).
 tree_two : HasTree (letter_word 1 ∷ letter_word 2 ∷ []) (then (letter 1) (letter 2))
@@ -56,6 +56,8 @@ worked_cases = record {
   expressions = worked;
   kept = refl;
   gone = refl;
+  kept_after = λ m. (λ memory. refl, refl);
+  gone_after = λ m. (λ memory. refl, refl);
   two-links = λ m is. pair m is _ 0 1 2 5 (λ e. omega arith) refl refl refl (λ t one. grind (arith, nat_tests));
   four-links = λ m is. pair m is _ 0 3 2 6 (λ e. omega arith) refl refl refl (λ t one. grind (arith, nat_tests));
   maintained = λ m is a b stands.
