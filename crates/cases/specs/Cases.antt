@@ -16,9 +16,9 @@ abbrev pub link : ℕ → ℕ → ℕ → Triple
 link a b l = record { from = a; to = b; label = l }
 
 -- The links that a plain watch keeps, with their times. Idle, none.
-abbrev pub links_of : Plain → Links
-links_of idle t = None
-links_of (opened h) t = h.links t
+abbrev pub links_held : Plain → Links
+links_held idle t = None
+links_held (opened h) t = h.links t
 
 -- No links, and one more link besides others.
 abbrev pub no_links : Links
@@ -59,7 +59,7 @@ abbrev pub KeepsAfter : Meaning → (clock : ℕ) → Option ℕ → Type 0
 KeepsAfter m clock kept =
     let s = opened (watch_of m one_link no_passes) in
     let call = with_report 16 (advancing clock) in
-    ((memory : Memory) → refusal memory s call ≡ None) × (links_of (after s call) (link 0 1 1) ≡ kept)
+    ((memory : Memory) → refusal memory s call ≡ None) × (links_held (after s call) (link 0 1 1) ≡ kept)
 
 pub record WorkedCases : Type 0 where
   pub expressions : ExpressionCases

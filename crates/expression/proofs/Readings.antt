@@ -15,7 +15,7 @@ use Rattle.expression.specs.Grammar.{Expression, Sequence, Piece, Atom, Repeats,
 use Rattle.expression.specs.Language.{Tree, Language, letter, either, then, star, plus, maybe}
 use Rattle.expression.proofs.Machines.{names, not_from, push_zero}
 use Rattle.expression.specs.Rows.{labels_in, rows_in}
-use Rattle.expression.specs.Built.{Links}
+use Rattle.expression.specs.Built.{Joins}
 use Rattle.expression.specs.Machines.{linked, label_of, letters_in}
 use Rattle.expression.specs.Parts.{Within, Either, Then, optional}
 use Rattle.expression.specs.Readers.{Advanced, Kept, Spells, Exact, ReadPart, RepeatedPart, Read, Repeated, Peeked, begins_piece, after_piece}
@@ -41,7 +41,7 @@ kept_on : {k k' : ℕ} {m m' m'' : Machine} → k ≤ k' → Kept k m m' → Kep
 kept_on le p q = grind arith
 
 -- New moves from letters after k leave what is up to k as it is.
-kept_link : {k : ℕ} {m m' : Machine} {from to : ℕ} → Links m m' from to → ((s : ℕ) → member from s ≡ true → k < s) → Kept k m m'
+kept_link : {k : ℕ} {m m' : Machine} {from to : ℕ} → Joins m m' from to → ((s : ℕ) → member from s ≡ true → k < s) → Kept k m m'
 kept_link links after = grind arith
 
 -- A part that was read stays a fragment while later letters are read.
@@ -124,7 +124,7 @@ read_as up read = record {
 }
 
 -- A piece and then a sequence.
-pub read_sequence : {r r1 r2 : Reader} {m : Machine} {p q x : Part} → ReadPart Piece r r1 p → (next : Option Symbol) → Peeked r1 (Ok next) → begins_piece next ≡ true → ReadPart Sequence r1 r2 q → Links r2.machine m p.last q.first → Then p q x → ReadPart Sequence r (relinked r2 m) x
+pub read_sequence : {r r1 r2 : Reader} {m : Machine} {p q x : Part} → ReadPart Piece r r1 p → (next : Option Symbol) → Peeked r1 (Ok next) → begins_piece next ≡ true → ReadPart Sequence r1 r2 q → Joins r2.machine m p.last q.first → Then p q x → ReadPart Sequence r (relinked r2 m) x
 read_sequence {r2 = r2} {m} {x = x} front next peek begins back links joined = record {
   advanced = grind arith;
   depth = back.depth ∙ front.depth;
@@ -192,7 +192,7 @@ repeated_next {r = r} {m} {T = T} r2 (Ok q) one rest = record {
 }
 
 -- A star and a plus lead from the last letters to the first; a maybe leads nowhere.
-pub repeat_star : (r : Reader) {m : Machine} (p : Part) → Peeked r (Ok (Some Star)) → Links r.machine m p.last p.first → Repeat r m Star star p (optional p)
+pub repeat_star : (r : Reader) {m : Machine} (p : Part) → Peeked r (Ok (Some Star)) → Joins r.machine m p.last p.first → Repeat r m Star star p (optional p)
 repeat_star r p next links = record {
   next = next;
   again = refl;
@@ -204,7 +204,7 @@ repeat_star r p next links = record {
   derive = star_next;
 }
 
-pub repeat_plus : (r : Reader) {m : Machine} (p : Part) → Peeked r (Ok (Some Plus)) → Links r.machine m p.last p.first → Repeat r m Plus plus p p
+pub repeat_plus : (r : Reader) {m : Machine} (p : Part) → Peeked r (Ok (Some Plus)) → Joins r.machine m p.last p.first → Repeat r m Plus plus p p
 repeat_plus r p next links = record {
   next = next;
   again = refl;

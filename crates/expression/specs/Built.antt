@@ -8,7 +8,7 @@ use Rattle.expression.specs.Parts.{accepted}
 use Rattle.expression.specs.Rows.{labels_in}
 
 -- There are moves besides from each state of `from` to each of `to`.
-pub record Links (m m' : Machine) (from to : ℕ) : Type 0 where
+pub record Joins (m m' : Machine) (from to : ℕ) : Type 0 where
   pub letters : letters_in m' ≡ letters_in m
   pub labels : labels_in m'.positions.items ≡ labels_in m.positions.items
   pub follow : (s t : ℕ) → linked m' s t ≡ (linked m s t || (member from s && member to t))

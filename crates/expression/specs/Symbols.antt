@@ -17,6 +17,6 @@ symbol_of w =
     else None
 
 -- What decoding a word answers: the symbol, or the word itself where it stands for none.
-abbrev pub Decodes : ℕ → Result Symbol NotAWord → Type 0
-Decodes w (Ok y) = symbol_of w ≡ Some y
-Decodes w (Err e) = (symbol_of w ≡ None) × (e.0 ≡ w)
+abbrev pub DecodesSymbol : ℕ → Result Symbol NotAWord → Type 0
+DecodesSymbol w (Ok y) = symbol_of w ≡ Some y
+DecodesSymbol w (Err e) = (symbol_of w ≡ None) × (e.0 ≡ w)

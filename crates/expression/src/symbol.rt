@@ -1,5 +1,5 @@
 // What one expression word stands for.
-ghost use Rattle.expression.specs.Symbols.{Decodes};
+ghost use Rattle.expression.specs.Symbols.{DecodesSymbol};
 
 use thiserror::Error;
 
@@ -40,7 +40,7 @@ pub struct NotAWord(pub u32);
 impl TryFrom<u32> for Symbol {
     type Error = NotAWord;
 
-    ghost try_from_gives = { Decodes };
+    ghost try_from_gives = { DecodesSymbol };
 
     #[tactic(auto, unfolding(crate::specs::Symbols::symbol_of))]
     fn try_from(word: u32) -> Result<Symbol, NotAWord> {

@@ -24,7 +24,8 @@ abbrev pub pair_refusal : Plain → (a b : ℕ) → Option ℕ
 pair_refusal idle a b = Some idle_number
 pair_refusal (opened h) a b = first_refusal (bad_pair h a b [])
 
--- That of path, with path memory of this length (room). It is too short where it has fewer than n × size words. Whether the pair stands is asked after these.
+-- That of path, with path memory of this length (room), which is too short with fewer than n × size words. Whether the pair stands is asked
+-- after these.
 abbrev pub path_refusal : Plain → (a b : ℕ) → (room : ℕ) → Option ℕ
 path_refusal idle a b room = Some idle_number
 path_refusal (opened h) a b room = first_refusal (bad_pair h a b (refuse (nat_lt room (h.n * h.query.size)) path_memory_number ∷ []))
@@ -49,8 +50,8 @@ pub record WritesPath (h : Held) (T : Table) (a b count : ℕ) (memory memory' :
   pub many : length links ≡ count
   pub words : PutsInFront (map add_word links) memory memory'
 
--- Path answers the number of a refusal and leaves its memory as it was; so by the last one where the pair does not stand; or else it writes the
--- shown path and answers how many links that has.
+-- Path answers the number of a refusal, the last of which is that the pair does not stand, and leaves its memory as it was; or else it writes
+-- the shown path and answers how many links that has.
 abbrev pub PathOutcome : Option ℕ → Plain → Table → (a b : ℕ) → Reply → (memory memory' : List ℕ) → Type 0
 PathOutcome (Some k) s T a b reply memory memory' = (reply ≡ refused k) × (memory' ≡ memory)
 PathOutcome None s T a b (refused k) memory memory' = (k ≡ standing_number) × (¬ Standing s a b) × (memory' ≡ memory)

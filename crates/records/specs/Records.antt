@@ -72,9 +72,9 @@ plain_record (record_of.Add t) = add (plain_triple t)
 plain_record (record_of.Drop t) = drop (plain_triple t)
 
 -- Decoding a word answers the record that has this one word, or the word itself where no record has.
-abbrev pub Decodes : ℕ → Result Record NotARecord → Type 0
-Decodes w (Ok r) = AreWordsOf (plain_record r) (w ∷ [])
-Decodes w (Err e) = ((r : PlainRecord) → ¬ AreWordsOf r (w ∷ [])) × (e.0 ≡ w)
+abbrev pub DecodesRecord : ℕ → Result Record NotARecord → Type 0
+DecodesRecord w (Ok r) = AreWordsOf (plain_record r) (w ∷ [])
+DecodesRecord w (Err e) = ((r : PlainRecord) → ¬ AreWordsOf r (w ∷ [])) × (e.0 ≡ w)
 
 -- Decoding the record at a place after the start answers the record that has the word there, or that the word does not belong there where no
 -- record has. At the end of the whole words there is no record, unless the tape is cut: then it ends inside one.

@@ -2,7 +2,7 @@
 ghost use Rattle.std.specs.Prelude.{◌≡◌, ◌/◌, ◌%◌, length};
 ghost use Rattle.records.specs.declared.fault.TapeFault.TheVariants.{Short};
 ghost use Rattle.records.specs.declared.record.Record.TheVariants.{Start as start_record};
-ghost use Rattle.records.specs.Records.{DecodesStart, DecodesNext, Decodes};
+ghost use Rattle.records.specs.Records.{DecodesStart, DecodesNext, DecodesRecord};
 
 use crate::fault::TapeFault;
 use query::LAST_LABEL;
@@ -126,7 +126,7 @@ pub struct NotARecord(pub u32);
 impl TryFrom<u32> for Record<'static> {
     type Error = NotARecord;
 
-    ghost try_from_gives = { Decodes };
+    ghost try_from_gives = { DecodesRecord };
 
     fn try_from(word: u32) -> Result<Record<'static>, NotARecord> {
         let (kind, low) = split(word);

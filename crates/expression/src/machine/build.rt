@@ -6,7 +6,7 @@ ghost use Rattle.masks.specs.Members.{member};
 ghost use Rattle.expression.specs.Machines.{Empty, letters_in};
 ghost use Rattle.expression.specs.Rows.{labels_in, rows_in};
 ghost use Rattle.expression.specs.Parts.{optional, Within};
-ghost use Rattle.expression.specs.Built.{Links, Finished};
+ghost use Rattle.expression.specs.Built.{Joins, Finished};
 
 use crate::machine::{Machine, Position};
 use crate::part::Part;
@@ -56,7 +56,7 @@ impl Machine {
     pub(crate) fn link(&mut self, from: States, to: States)
         requires from { (s : ℕ) → member from s ≡ true → s ≤ letters_in self.old }
         requires to { (t : ℕ) → member to t ≡ true → (1 ≤ t) × (t ≤ letters_in self.old) }
-        ensures { Links self.old self.new from to }
+        ensures { Joins self.old self.new from to }
     {
         link_all(self.positions.as_mut_slice(), from, to);
     }
@@ -66,7 +66,7 @@ impl Machine {
     pub(crate) fn plus(&mut self, part: Part) -> Part
         requires { Within 0 (letters_in self.old) part }
         ensures value { result ≡ part }
-        ensures links { Links self.old self.new part.last part.first }
+        ensures links { Joins self.old self.new part.last part.first }
     {
         self.link(part.last, part.first);
         part
@@ -76,7 +76,7 @@ impl Machine {
     pub(crate) fn star(&mut self, part: Part) -> Part
         requires { Within 0 (letters_in self.old) part }
         ensures value { result ≡ optional part }
-        ensures links { Links self.old self.new part.last part.first }
+        ensures links { Joins self.old self.new part.last part.first }
     {
         self.plus(part).or_nothing()
     }
