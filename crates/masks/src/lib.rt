@@ -1,8 +1,8 @@
 // Sets of states. A query has at most 32 states, so a set of them is one 32-bit number, whose bit k says whether state k is in the set.
 #![tactic(auto, using(crate::proofs::Laws::mask_laws), unfolding(crate::specs::Members::member))]
 
-ghost use Rattle.std.specs.Prelude.{◌≡◌, ℕ, ◌<◌, ◌||◌, true, false, Bool};
-ghost use Rattle.masks.specs.Members.{member, with_member, places};
+ghost use Rattle.std.specs.Prelude.{◌≡◌, ℕ, ◌<◌, ◌||◌, true, false, Bool, OnSome};
+ghost use Rattle.masks.specs.Members.{member, with_member, places, TakesFirst};
 
 use std::marker::Model;
 use std::ops::{BitOr, BitOrAssign};
@@ -51,6 +51,19 @@ impl States {
         States {
             bits: self.bits | (1 << state),
         }
+    }
+
+    /// Takes the lowest state out of the set and answers it, or none where the set is empty.
+    pub fn pop_first(&mut self) -> Option<u32>
+        ensures takes { TakesFirst self.old self.new result }
+        ensures less { OnSome result (self.new < self.old) }
+    {
+        if self.bits == 0 {
+            return None;
+        }
+        let first = self.bits.trailing_zeros();
+        self.bits &= self.bits - 1;
+        Some(first)
     }
 }
 

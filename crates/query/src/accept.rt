@@ -47,10 +47,9 @@ fn any<F: Fn(u32) -> bool>(states: States, test: F) -> bool
     ensures yes { result ≡ true → (j : ℕ) × (member states j ≡ true) × F.post test j true }
     ensures no { result ≡ false → (j : ℕ) → member states j ≡ true → F.post test j false }
 {
-    // A loop: tried as the iterator's `any`, where a clause stayed open. That no state from 32 on is in the set is told by `contains`, and is
-    // lost inside a closure.
-    for state in 0..MOST_STATES {
-        if states.contains(state) && test(state) {
+    let mut rest = states;
+    while let Some(state) = rest.pop_first() {
+        if test(state) {
             return true;
         }
     }

@@ -1,9 +1,12 @@
-use Rattle.std.proofs.Common.{◌≡◌, ℕ, ◌<◌, true, false}
+use Rattle.std.proofs.Common.{◌≡◌, ℕ, true, false}
 use Rattle.masks.specs.Members.{member}
 use Rattle.query.proofs.accept.any.Given as goal
 
--- The first look at the set has told that it has no state from 32 on.
+-- Each state of the set is still to be tried, or failed the test.
 abbrev pub invariant-loop-state : goal.invariant-loop-state
 invariant-loop-state g l =
-    (0 < l.state → (j : ℕ) → member l.states j ≡ true → j < 32)
-    × ((j : ℕ) → j < l.state → member l.states j ≡ true → goal.F-post g l.test j false)
+    ((j : ℕ) → member l.rest j ≡ true → member l.fn.states j ≡ true)
+    × ((j : ℕ) → member l.fn.states j ≡ true → member l.rest j ≡ false → goal.F-post g l.test j false)
+
+abbrev pub decreases-loop-state : goal.decreases-loop-state
+decreases-loop-state g l = l.rest
