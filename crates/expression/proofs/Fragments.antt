@@ -12,20 +12,25 @@ pub walk_join : (F : ℕ → ℕ → Bool) (L : ℕ → ℕ) (u v : List ℕ) (s
 walk_join F L [] v s x t e q = subst (λ (y : ℕ). Walk F L y v t) (sym e) q
 walk_join F L (l ∷ u) v s x t p q = (p.0, p.1, p.2, walk_join F L u v p.0 x t p.3 q)
 
+-- Walks under one rule are walks under another, where each step of the first from a place in the range is one of the second, and stays in the range.
+pub walk_map : (F G : ℕ → ℕ → Bool) (L M : ℕ → ℕ) (R : ℕ → Type 0) → ((s u : ℕ) → R s → F s u ≡ true → (G s u ≡ true) × (M u ≡ L u) × R u) → (w : List ℕ) (s t : ℕ) → R s → Walk F L s w t → Walk G M s w t × R t
+walk_map F G L M R step [] s t r e = (e, subst R e r)
+walk_map F G L M R step (l ∷ w) s t r p =
+    let q = step s p.0 r p.1 in
+    let rest = walk_map F G L M R step w p.0 t q.2 p.3 in
+    ((p.0, q.0, q.1 ∙ p.2, rest.0), rest.1)
+
 -- Under one rule and under another, in a range that the first rule does not leave, where each of its moves there is one of the second too.
 module _ (F G : ℕ → ℕ → Bool) (L M : ℕ → ℕ) (lo hi : ℕ) (step : (s u : ℕ) → lo < s → s ≤ hi → F s u ≡ true → (G s u ≡ true) × ((lo < u) × (u ≤ hi))) (labels : (u : ℕ) → lo < u → u ≤ hi → M u ≡ L u) where
-  walk_map : (w : List ℕ) (s t : ℕ) → lo < s → s ≤ hi → Walk F L s w t → Walk G M s w t × ((lo < t) × (t ≤ hi))
-  walk_map [] s t a b e = grind arith
-  walk_map (l ∷ w) s t a b p =
-      let q = step s p.0 a b p.1 in
-      let rest = walk_map w p.0 t q.1.0 q.1.1 p.3 in
-      ((p.0, q.0, labels p.0 q.1.0 q.1.1 ∙ p.2, rest.0), rest.1)
+  walk_within : (w : List ℕ) (s t : ℕ) → lo < s → s ≤ hi → Walk F L s w t → Walk G M s w t × ((lo < t) × (t ≤ hi))
+  walk_within w s t a b walk =
+      walk_map F G L M (λ (x : ℕ). (lo < x) × (x ≤ hi)) (λ x u r e. let q = step x u r.0 r.1 e in (q.0, labels u q.1.0 q.1.1, q.1)) w s t (a, b) walk
 
   through_map : {p : Part} → Within lo hi p → (w : List ℕ) → Through F L p w → Through G M p w
   through_map own [] e = e
   through_map own (l ∷ w) x =
       let r = own.first x.0 x.2 in
-      (x.0, x.1, x.2, labels x.0 r.0 r.1 ∙ x.3, (walk_map w x.0 x.1 r.0 r.1 x.4).0, x.5)
+      (x.0, x.1, x.2, labels x.0 r.0 r.1 ∙ x.3, (walk_within w x.0 x.1 r.0 r.1 x.4).0, x.5)
 
 -- Among the letters of a fragment the two rules agree.
 pub record Agree (F G : ℕ → ℕ → Bool) (L M : ℕ → ℕ) (lo hi : ℕ) : Type 0 where
@@ -43,7 +48,7 @@ fragment_kept {F} {G} {L} {M} {lo} {hi} agree f = record {
 
 -- A walk from a letter of the fragment ends at one.
 walk_stays : {F : ℕ → ℕ → Bool} {L : ℕ → ℕ} {lo hi : ℕ} {p : Part} {P : List ℕ → Type 0} → Fragment F L lo hi p P → (w : List ℕ) (s t : ℕ) → lo < s → s ≤ hi → Walk F L s w t → (lo < t) × (t ≤ hi)
-walk_stays {F} {L} {lo} {hi} f w s t a b walk = (walk_map F F L L lo hi (grind arith) (grind arith) w s t a b walk).1
+walk_stays {F} {L} {lo} {hi} f w s t a b walk = (walk_within F F L L lo hi (grind arith) (grind arith) w s t a b walk).1
 
 -- Where the part may be nothing besides.
 pub through_optional : (F : ℕ → ℕ → Bool) (L : ℕ → ℕ) (p : Part) (w : List ℕ) → Through F L p w → Through F L (optional p) w
@@ -62,18 +67,18 @@ fragment_maybe {F} {L} {lo} {hi} {p} {P} f = record { own = grind arith; stays =
     takes w (inr q) = through_optional F L p w (f.takes w q)
 
 -- One letter, from which no move leads yet.
-pub fragment_letter : {F : ℕ → ℕ → Bool} {L : ℕ → ℕ} {lo hi l own : ℕ} → hi ≡ lo + 1 → ((x : ℕ) → member own x ≡ eqb x hi) → L hi ≡ l → ((t : ℕ) → F hi t ≡ false) → Fragment F L lo hi (record { nullable = false; first = own; last = own }) (λ w. w ≡ l ∷ [])
-fragment_letter {F} {L} {lo} {hi} {l} {own} next is label still = record {
-  own = grind (arith, nat_tests);
+pub fragment_letter : {F : ℕ → ℕ → Bool} {L : ℕ → ℕ} {lo hi l : ℕ} {p : Part} → hi ≡ lo + 1 → p.nullable ≡ false → ((x : ℕ) → member p.first x ≡ eqb x hi) → ((x : ℕ) → member p.last x ≡ eqb x hi) → L hi ≡ l → ((t : ℕ) → F hi t ≡ false) → Fragment F L lo hi p (λ w. w ≡ l ∷ [])
+fragment_letter {F} {L} {lo} {hi} {l} {p} next some first last label still = record {
+  own = record { first = λ x e. grind (arith, nat_tests, first x); last = λ x e. grind (arith, nat_tests, last x) };
   stays = λ s t a b e. let q : s ≡ hi = omega arith in grind (arith, still t);
   says = says;
-  takes = λ w e. rw e (hi, hi, grind (arith, nat_tests), label, refl, grind (arith, nat_tests));
+  takes = λ w e. rw e (hi, hi, grind (arith, nat_tests, first hi), label, refl, grind (arith, nat_tests, last hi));
 }
   where
-    says : (w : List ℕ) → Through F L (record { nullable = false; first = own; last = own }) w → w ≡ l ∷ []
-    says [] e = grind arith
-    says (m ∷ []) x = grind (arith, nat_tests, is x.0)
-    says (m ∷ n ∷ w) x = grind (arith, nat_tests, is x.0, still x.4.0)
+    says : (w : List ℕ) → Through F L p w → w ≡ l ∷ []
+    says [] e = grind (arith, some)
+    says (m ∷ []) x = grind (arith, nat_tests, first x.0)
+    says (m ∷ n ∷ w) x = grind (arith, nat_tests, first x.0, still x.4.0)
 
 -- One part or another, with letters of their own.
 pub fragment_either : {F : ℕ → ℕ → Bool} {L : ℕ → ℕ} {lo mid hi : ℕ} {a b p : Part} {P Q : List ℕ → Type 0} → lo ≤ mid → mid ≤ hi → Fragment F L lo mid a P → Fragment F L mid hi b Q → Either a b p → Fragment F L lo hi p (λ w. P w ⊎ Q w)
@@ -130,7 +135,7 @@ module _ {F G : ℕ → ℕ → Bool} {from to : ℕ} (linked : Linked F G from 
 module _ {F G : ℕ → ℕ → Bool} {L : ℕ → ℕ} {lo mid hi : ℕ} {a b p : Part} {P Q : List ℕ → Type 0} (low : lo ≤ mid) (high : mid ≤ hi) (f : Fragment F L lo mid a P) (g : Fragment F L mid hi b Q) (linked : Linked F G a.last b.first) (e : Then a b p) where
   -- In the second part there are only its own moves.
   second_walk : (w : List ℕ) (s t : ℕ) → mid < s → s ≤ hi → Walk G L s w t → Walk F L s w t × ((mid < t) × (t ≤ hi))
-  second_walk = walk_map G F L L mid hi (λ s u x y m. grind (arith, linked.moves s u, f.own.last s)) (grind arith)
+  second_walk = walk_within G F L L mid hi (λ s u x y m. grind (arith, linked.moves s u, f.own.last s)) (grind arith)
 
   -- A word that ends in the first part has nothing of the second.
   ends_first : (t : ℕ) → t ≤ mid → member p.last t ≡ true → (b.nullable ≡ true) × (member a.last t ≡ true)

@@ -65,7 +65,7 @@ read_letter r m l own k peek room next labels rows is = record {
   tree = letter l;
   derived = rw peek.1 (letter_atom peek.2);
   fragment =
-      fragment_letter (letters ∙ next) own_is
+      fragment_letter (letters ∙ next) refl own_is own_is
       (ap (λ xs. get_or xs (letters_in m) 0) labels ∙ get_or_push (labels_in r.machine.positions.items) l 0 (letters_in m) (omega (arith, names r.machine, r.machine.start, letters))) still;
   exact = grind (arith, own_is, still, letters);
 }

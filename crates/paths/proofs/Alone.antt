@@ -22,7 +22,7 @@ just_added : (windows : Windows) (t : Triple) (clock : ℕ) → IsFalse (has_bad
 just_added windows t clock good = grind (arith, nat_tests)
 
 -- The windows are good, and every kept link is within its time.
-abbrev Fresh : Plain → Type 0
+abbrev pub Fresh : Plain → Type 0
 Fresh idle = ⊤
 Fresh (opened h) = IsFalse (has_bad_window h.windows) × ((t : Triple) → h.links t ≡ unless_past h.windows t h.clock (h.links t))
 
@@ -37,7 +37,7 @@ fresh_after memory s call accepted fresh = grind (arith, nat_tests)
 fresh_call : (memory : Memory) (s : Plain) (e : Event) (s' : Plain) → Takes memory s e.call e.answer e.report s' → Fresh s → Fresh s'
 fresh_call memory s e s' takes fresh = grind (arith, fresh_after memory s e.call)
 
-fresh_row : (memory : Memory) {es : List Event} {s : Plain} → Row memory idle es s → Fresh s
+pub fresh_row : (memory : Memory) {es : List Event} {s : Plain} → Row memory idle es s → Fresh s
 fresh_row memory begin = tt
 fresh_row memory (then es s s' e row lawful takes) = fresh_call memory s e s' takes (fresh_row memory row)
 
@@ -65,6 +65,10 @@ module _ (h k : Held) (aged : Aged h k) where
   -- The links that count later are those that counted before and have not left.
   still_counts : (t : Triple) → IsSome (counting k t) ↔ (IsSome (counting h t) × (k.clock < ends_at h.windows (time_of (counting h) t)))
   still_counts t = grind (arith, nat_tests, leaves_at_end, aged.links t, aged.windows, aged.passes)
+
+  -- And they have the times that they had.
+  still_timed : (t : Triple) → IsSome (counting k t) → time_of (counting k) t ≡ time_of (counting h) t
+  still_timed t counts = grind (arith, nat_tests, aged.links t, aged.windows, aged.passes)
 
   -- So for a path, whose least time decides.
   still_laid : (ts : List Triple) (a b : ℕ) → 0 < length ts → Chain (counting k) a ts b ↔ (Chain (counting h) a ts b × (k.clock < ends_at h.windows (path_time (counting h) ts)))

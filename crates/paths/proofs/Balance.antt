@@ -4,8 +4,9 @@ use Rattle.std.specs.Prelude.{◌↔◌}
 use Rattle.std.proofs.lemmas.List.Sums.{sum_by-cons}
 use Rattle.std.proofs.lemmas.Bool.Decides.{nat_tests}
 use Rattle.query.specs.Meaning.{Meaning}
-use Rattle.paths.specs.Links.{Windows}
-use Rattle.paths.specs.Plain.{Plain, idle, Standing, Call, opening, Memory, refusal, after}
+use Rattle.paths.specs.Links.{Triple, Windows}
+use Rattle.paths.specs.Pairs.{Stands}
+use Rattle.paths.specs.Plain.{Held, Plain, counting, idle, Standing, Call, opening, Memory, refusal, after}
 use Rattle.paths.specs.Runs.{Change, times, Reports, ReportOf, Takes, Event, Row, begin, then, times_in, BalanceLaw}
 use Rattle.paths.proofs.Chains.{first_link}
 
@@ -13,15 +14,20 @@ use Rattle.paths.proofs.Chains.{first_link}
 reports_none : (s s' : Plain) → ((a b : ℕ) → Standing s a b ↔ Standing s' a b) → Reports s s' []
 reports_none s s' same = grind arith
 
--- A watch just opened keeps no link, so nothing stands.
-nothing_stands : (n : ℕ) (windows : Windows) (tag : ℕ) (query : Meaning) (a b : ℕ) → ¬ Standing (after idle (opening n windows tag query)) a b
-nothing_stands n windows tag query a b stands =
+-- Where a watch keeps no link, nothing stands.
+pub nothing_stands : (h : Held) → ((t : Triple) → h.links t ≡ None) → (a b : ℕ) → ¬ Stands (counting h) h.query a b
+nothing_stands h none a b stands =
     let (t, ts, spelt, there, least) = first_link _ a b _ stands.reached.1.path in
-    grind (arith, nat_tests)
+    grind (arith, nat_tests, none t)
+
+-- So it is for a watch just opened.
+nothing_stands_yet : (n : ℕ) (windows : Windows) (tag : ℕ) (query : Meaning) (a b : ℕ) → ¬ Standing (after idle (opening n windows tag query)) a b
+nothing_stands_yet n windows tag query a b stands =
+    nothing_stands (record { n = n; windows = windows; tag = tag; query = query; clock = 0; links = λ t. None; passes = λ p. 0 }) (λ t. refl) a b stands
 
 -- The empty report of an opening is right, and so is the report of every call.
 reports_after : (memory : Memory) (s : Plain) (call : Call) (report : List Change) → refusal memory s call ≡ None → ReportOf s call report → Reports s (after s call) report
-reports_after memory s call report accepted reports = grind (arith, reports_none, nothing_stands)
+reports_after memory s call report accepted reports = grind (arith, reports_none, nothing_stands_yet)
 
 reports_call : (memory : Memory) (s : Plain) (e : Event) (s' : Plain) → Takes memory s e.call e.answer e.report s' → Reports s s' e.report
 reports_call memory s e s' takes = grind (arith, reports_none s s, reports_after memory s e.call e.report)

@@ -47,7 +47,7 @@ module _ {G : Links} {m : Meaning} {a : ℕ} {T : Table} where
   shown_last (first b s t last into from move) = grind arith
   shown_last (next b s t c q ts last into from move more shown) = grind (arith, shown_arrives shown)
 
-  right : Supported G m a T → Closed G m a T → Right G m a T
+  pub right : Supported G m a T → Closed G m a T → Right G m a T
   right supported closed = record {
     reached = λ b s some.
         let (path, shown) = supported.shown b s some in

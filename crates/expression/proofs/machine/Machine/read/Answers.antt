@@ -1,4 +1,4 @@
-use Rattle.std.proofs.Common.{refl, arith}
+use Rattle.std.proofs.Common.{refl, rules, arith}
 use Rattle.std.proofs.lemmas.Result.{err_from_is_err_and}
 use Rattle.expression.proofs.Whole.{refused, refused_count}
 use Rattle.expression.proofs.machine.Machine.read.Goals as goal
@@ -9,4 +9,4 @@ returns-then-is_empty c = (refused_count c.args.words.now (grind arith), refl)
 pub returns-in_err-self : goal.returns-in_err-self
 returns-in_err-self c =
     let p = err_from_is_err_and c.from_residual.result c.from_residual.ensures.1 in
-    rw (p.1, p.2) (refused c.args.words.now c.in_err-self.field-0.0 (grind arith) c.if-words-gt-MOST_EXPRESSION_WORDS.false c.in_err-self.ensures, refl)
+    rw (p.1, p.2) (refused c.args.words.now c.in_err-self.field-0.0 (grind arith) (search rules) c.in_err-self.ensures, refl)
